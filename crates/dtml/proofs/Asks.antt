@@ -1,0 +1,97 @@
+-- An invocation moves the record of a fresh or a ready transaction to its first line, and its tale says what was asked.
+use Prim.Native.Nat.{ℕ, _≤_, _<_}
+use native.Mathlib.Omega.{arith}
+use borrow.Author.Tests.{leb-false}
+use mathlib.Core.Path.{_≡_, refl, sym, subst, _∙_}
+use mathlib.Core.Bool.{Bool, true, false, not}
+use mathlib.Core.List.{List}
+use lib.ListN.{length, set}
+use lib.Dec.{leb}
+use Rattle.marks.specs.Marks.{countOf}
+use Rattle.dtml.specs.declared.Tx.{Tx}
+use Rattle.dtml.specs.declared.Phase.{Phase}
+use Rattle.dtml.specs.declared.Phase.the-variants.{Fresh, Ready, Committed, Aborted, B1, B2, R1, R2, W1, W2, W3, W4, W5, W6, W7, E1, E2, E3}
+use Rattle.dtml.specs.declared.Recovery.{Recovery}
+use Rattle.dtml.specs.Store.{Memory, recordAt, tx}
+use Rattle.dtml.specs.Lines.{even, stage}
+use Rattle.dtml.specs.Checks.{Ask, read, write, commit, notIdle, isNew, isWaiting}
+use Rattle.dtml.specs.History.{Tale, Past, last, taleAt, begins, asks}
+use Rattle.dtml.proofs.Invariant.{Free, Plain, Current, Lock, Owner, Clean, Ender, EachBut, Inv}
+use Rattle.dtml.proofs.Words.{true-not-false}
+use Rattle.dtml.proofs.Roles.{FreeRole, Role, free, owner, ender, role}
+use Rattle.dtml.proofs.FreeLines.{moved}
+use Rattle.dtml.proofs.OwnerLines.{stays}
+
+pub new-fresh : (p : Phase) → isNew (stage p) ≡ true → p ≡ Fresh
+new-fresh Fresh h = refl
+new-fresh Ready h = absurd (true-not-false refl (sym h))
+new-fresh Committed h = absurd (true-not-false refl (sym h))
+new-fresh Aborted h = absurd (true-not-false refl (sym h))
+new-fresh B1 h = absurd (true-not-false refl (sym h))
+new-fresh B2 h = absurd (true-not-false refl (sym h))
+new-fresh (R1 w) h = absurd (true-not-false refl (sym h))
+new-fresh (R2 v) h = absurd (true-not-false refl (sym h))
+new-fresh (W1 w v) h = absurd (true-not-false refl (sym h))
+new-fresh (W2 w v) h = absurd (true-not-false refl (sym h))
+new-fresh (W3 w v) h = absurd (true-not-false refl (sym h))
+new-fresh (W4 w v) h = absurd (true-not-false refl (sym h))
+new-fresh (W5 w v) h = absurd (true-not-false refl (sym h))
+new-fresh (W6 w v) h = absurd (true-not-false refl (sym h))
+new-fresh (W7 w) h = absurd (true-not-false refl (sym h))
+new-fresh E1 h = absurd (true-not-false refl (sym h))
+new-fresh E2 h = absurd (true-not-false refl (sym h))
+new-fresh E3 h = absurd (true-not-false refl (sym h))
+
+pub waiting-ready : (p : Phase) → isWaiting (stage p) ≡ true → p ≡ Ready
+waiting-ready Fresh h = absurd (true-not-false refl (sym h))
+waiting-ready Ready h = refl
+waiting-ready Committed h = absurd (true-not-false refl (sym h))
+waiting-ready Aborted h = absurd (true-not-false refl (sym h))
+waiting-ready B1 h = absurd (true-not-false refl (sym h))
+waiting-ready B2 h = absurd (true-not-false refl (sym h))
+waiting-ready (R1 w) h = absurd (true-not-false refl (sym h))
+waiting-ready (R2 v) h = absurd (true-not-false refl (sym h))
+waiting-ready (W1 w v) h = absurd (true-not-false refl (sym h))
+waiting-ready (W2 w v) h = absurd (true-not-false refl (sym h))
+waiting-ready (W3 w v) h = absurd (true-not-false refl (sym h))
+waiting-ready (W4 w v) h = absurd (true-not-false refl (sym h))
+waiting-ready (W5 w v) h = absurd (true-not-false refl (sym h))
+waiting-ready (W6 w v) h = absurd (true-not-false refl (sym h))
+waiting-ready (W7 w) h = absurd (true-not-false refl (sym h))
+waiting-ready E1 h = absurd (true-not-false refl (sym h))
+waiting-ready E2 h = absurd (true-not-false refl (sym h))
+waiting-ready E3 h = absurd (true-not-false refl (sym h))
+
+module _ (n : ℕ) (m : Memory) (r : Recovery) (ts : List Tx) (ks : List Tale) (past : Past) (t : ℕ) (ht : t < 64) (i : notIdle r ≡ false)
+    (inv : Inv n m r ts ks (last past)) where
+  pub begun : isNew (stage (recordAt ts t .phase)) ≡ true → Inv n m r (set ts t (tx (recordAt ts t .loc) B1)) (set ks t begins) (last past)
+  begun s = go (new-fresh (recordAt ts t .phase) s) (role n m r ts ks (last past) t ht (inv .shape) (inv .mode) i)
+    where
+      go : recordAt ts t .phase ≡ Fresh → Role n m r ts ks (last past) t
+          → Inv n m r (set ts t (tx (recordAt ts t .loc) B1)) (set ks t begins) (last past)
+      go e (free f) = moved n m r ts ks past t ht i inv (m .glb) _ _ (f .put (recordAt ts t .loc) B1 begins (refl, refl, refl, refl))
+      go e (owner odd lock own others) =
+          absurd (subst (λ p. Owner n m (last past) (recordAt ts t .loc) p (taleAt ks t)) e own)
+      go e (ender c odd end others) =
+          absurd (subst (λ p. Ender (m .glb) (last past) (recordAt ts t .loc) p (taleAt ks t)) e end)
+
+  -- a ready transaction is asked for a, whose first line is p
+  pub asked : (a : Ask) (p : Phase) → isWaiting (stage (recordAt ts t .phase)) ≡ true
+      → (Plain (taleAt ks t) → Current n (m .glb) (last past) (recordAt ts t .loc) (taleAt ks t)
+      → Free n (m .glb) (last past) (recordAt ts t .loc) p (asks (taleAt ks t) a))
+      → (recordAt ts t .loc ≡ m .glb → Clean n m (last past) (taleAt ks t) → Owner n m (last past) (recordAt ts t .loc) p (asks (taleAt ks t) a))
+      → Inv n m r (set ts t (tx (recordAt ts t .loc) p)) (set ks t (asks (taleAt ks t) a)) (last past)
+  asked a p s as-free as-owner = go (waiting-ready (recordAt ts t .phase) s) (role n m r ts ks (last past) t ht (inv .shape) (inv .mode) i)
+    where
+      go : recordAt ts t .phase ≡ Ready → Role n m r ts ks (last past) t
+          → Inv n m r (set ts t (tx (recordAt ts t .loc) p)) (set ks t (asks (taleAt ks t) a)) (last past)
+      go e (free f) =
+          let h : Free n (m .glb) (last past) (recordAt ts t .loc) Ready (taleAt ks t) =
+          subst (λ q. Free n (m .glb) (last past) (recordAt ts t .loc) q (taleAt ks t)) e (f .is-free) in
+          moved n m r ts ks past t ht i inv (m .glb) _ _ (f .put (recordAt ts t .loc) p (asks (taleAt ks t) a) (as-free (h .0) (h .1)))
+      go e (owner odd lock own others) =
+          let h : Owner n m (last past) (recordAt ts t .loc) Ready (taleAt ks t) =
+          subst (λ q. Owner n m (last past) (recordAt ts t .loc) q (taleAt ks t)) e own in
+          stays n m r ts ks past t ht i inv odd others (recordAt ts t .loc) p (asks (taleAt ks t) a) lock (as-owner (h .0) (h .1))
+      go e (ender c odd end others) =
+          absurd (subst (λ q. Ender (m .glb) (last past) (recordAt ts t .loc) q (taleAt ks t)) e end)

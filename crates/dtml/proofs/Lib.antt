@@ -1,0 +1,15 @@
+pub mod Invariant
+pub mod Words
+pub mod Flush
+pub mod Roles
+pub mod FreeLines
+pub mod OwnerLines
+pub mod Asks
+pub mod SystemCalls
+pub mod Worlds
+pub mod Fit
+pub mod Low
+pub mod Figure
+pub mod Fitness
+pub mod Cost
+pub mod Demands

@@ -1,0 +1,102 @@
+-- What each call answers and leaves: its checks first, then an invocation, a line, a flush, a crash or recovery lines.
+use Prim.Native.Nat.{ℕ, zero, suc, _+_}
+use mathlib.Core.Bool.{Bool, true, false, not}
+use mathlib.Core.List.{List, [], _∷_}
+use lib.ListN.{length, set}
+use lib.Dec.{eqb}
+use Rattle.marks.specs.Marks.{pick}
+use Rattle.dtml.specs.declared.Tx.{Tx}
+use Rattle.dtml.specs.declared.Phase.the-variants.{B1, R1, W1, E1}
+use Rattle.dtml.specs.declared.Recovery.{Recovery}
+use Rattle.dtml.specs.declared.Recovery.the-variants.{Idle, C1, C2, C3, C4, C5, C6}
+use Rattle.dtml.specs.Table.{Reply, says}
+use Rattle.dtml.specs.Store.{Memory, Store, store, size, recordAt, fresh}
+use Rattle.dtml.specs.Lines.{Did, did, to, line, Healed, healed, heal, flushWord, recoveryLine, crashMemory, crashTxs}
+use Rattle.dtml.specs.Checks.{unfit, unfitRows, unfitOne, unfitMemory, anyOf, _⇒_, first, Ask, begin, read, write, commit, step, Sys, flush, crash, recover, recoverUpTo, Call, on, sys, askChecks, sysChecks, checks}
+
+-- ---- what is carried out
+
+-- An invocation puts the record at its first line and answers 0; a step does one numbered line.
+unfoldable pub ask : Memory → Tx → Ask → Did
+ask m t begin = to m (t .loc) B1
+ask m t (read w) = to m (t .loc) (R1 w)
+ask m t (write w v) = to m (t .loc) (W1 w v)
+ask m t commit = to m (t .loc) E1
+ask m t step = line m t
+
+-- one line more: its number stands, and the lines carried out rise by 1
+abbrev pub oneMore : (Reply → Memory → Recovery → Healed) → Reply → Healed → Healed
+oneMore rest a h = rest (says (h .reply .number) (a .value + 1)) (h .mem) (h .rec)
+
+-- b recovery lines, or all that are left up to and with C6 if those are fewer, after what is answered so far: the last line's number, and the lines carried out
+unfoldable pub upTo : ℕ → Reply → Memory → Recovery → Healed
+upTo zero a m r = healed a m r
+upTo (suc b) a m Idle = healed a m Idle
+upTo (suc b) a m C1 = oneMore (upTo b) a (recoveryLine m C1)
+upTo (suc b) a m C2 = oneMore (upTo b) a (recoveryLine m C2)
+upTo (suc b) a m (C3 w v) = oneMore (upTo b) a (recoveryLine m (C3 w v))
+upTo (suc b) a m (C4 w v) = oneMore (upTo b) a (recoveryLine m (C4 w v))
+upTo (suc b) a m (C5 w v) = oneMore (upTo b) a (recoveryLine m (C5 w v))
+upTo (suc b) a m C6 = oneMore (upTo b) a (recoveryLine m C6)
+
+unfoldable pub system : Memory → Recovery → Sys → Healed
+system m r (flush w) = heal (flushWord m w) r
+system m r crash = heal (crashMemory m) C1
+system m r recover = recoveryLine m r
+system m r (recoverUpTo b) = upTo b (says 0 0) m r
+
+-- only a crash reaches the records
+abbrev pub systemTxs : Sys → List Tx → List Tx
+systemTxs (flush w) ts = ts
+systemTxs crash ts = crashTxs ts
+systemTxs recover ts = ts
+systemTxs (recoverUpTo b) ts = ts
+
+-- ---- a call on a whole store
+
+pub record Outcome : Type 0 where
+  pub reply : Reply
+  pub store : Store
+
+abbrev pub outcome : Reply → Store → Outcome
+outcome a s = record { reply = a; store = s }
+
+-- a refused call changes nothing, and its value is 0
+abbrev pub refused : Store → ℕ → Outcome
+refused s n = outcome (says n 0) s
+
+abbrev pub placed : Store → ℕ → Did → Outcome
+placed s t d = outcome (d .reply) (store (d .mem) (s .rec) (set (s .txs) t (d .tx)))
+
+abbrev pub settled : List Tx → Healed → Outcome
+settled ts h = outcome (h .reply) (store (h .mem) (h .rec) ts)
+
+unfoldable pub act : Store → Call → Outcome
+act s (on t a) = placed s t (ask (s .mem) (recordAt (s .txs) t) a)
+act s (sys k) = settled (systemTxs k (s .txs)) (system (s .mem) (s .rec) k)
+
+unfoldable pub call : Store → Call → Outcome
+call s c = first (checks s c) (refused s) (act s c)
+
+-- Making a store fresh answers 0, or refuses rows of the wrong length with 9.
+unfoldable pub makeFresh : Store → Outcome
+makeFresh s =
+    first
+    (anyOf (unfitRows (length (s .mem .vol)) (length (s .mem .pers)) (length (s .mem .old)) ∷ not (eqb (length (s .txs)) 64) ∷ []) ⇒ 9 ∷ [])
+    (refused s)
+    (outcome (says 0 0) (fresh (size (s .mem))))
+
+-- ---- a call on what it is handed, without the other records
+
+-- on one record: the same checks but 11, and of the records only this one is tested for fitness
+unfoldable pub callOne : Memory → Recovery → Tx → Ask → Did
+callOne m r t a =
+    first
+    (unfitOne (length (m .vol)) (length (m .pers)) (length (m .old)) (m .marks) (m .glb) r t ⇒ 9 ∷ askChecks (size m) r t a)
+    (λ n. did (says n 0) m t)
+    (ask m t a)
+
+-- on the store as a whole: no record is tested
+unfoldable pub callSystem : Memory → Recovery → Sys → Healed
+callSystem m r k =
+    first (unfitMemory m r ⇒ 9 ∷ sysChecks (size m) r k) (λ n. healed (says n 0) m r) (system m r k)

@@ -1,0 +1,160 @@
+-- Document 01, "Numbers that come back": what is unfit, and each call's order of checks.
+use Prim.Native.Nat.{ℕ}
+use mathlib.Core.Bool.{Bool, true, false, not}
+use mathlib.Core.List.{List, [], _∷_}
+use lib.ListN.{length}
+use lib.Dec.{eqb, leb, ltb}
+use Rattle.marks.specs.Marks.{pick, countOf, standsFrom}
+use Rattle.dtml.specs.declared.Tx.{Tx}
+use Rattle.dtml.specs.declared.Phase.{Phase}
+use Rattle.dtml.specs.declared.Phase.the-variants.{Fresh, Ready, Committed, Aborted, B1, B2, R1, R2, W1, W2, W3, W4, W5, W6, W7, E1, E2, E3}
+use Rattle.dtml.specs.declared.Stage.{Stage}
+use Rattle.dtml.specs.declared.Stage.the-variants.{New, Waiting, AtLine, Over}
+use Rattle.dtml.specs.declared.Recovery.{Recovery}
+use Rattle.dtml.specs.declared.Recovery.the-variants.{Idle, C1, C2, C3, C4, C5, C6}
+use Rattle.dtml.specs.Store.{Memory, Store, size, recordAt}
+use Rattle.dtml.specs.Lines.{stage}
+
+-- ---- unfit
+
+abbrev pub anyOf : List Bool → Bool
+anyOf [] = false
+anyOf (b ∷ bs) = pick b true (anyOf bs)
+
+-- the three word rows differ in length, or N, which is that length, is 0 or above 256
+unfoldable pub unfitRows : ℕ → ℕ → ℕ → Bool
+unfitRows vol pers old = anyOf (not (eqb vol pers) ∷ not (eqb vol old) ∷ eqb vol 0 ∷ ltb 256 vol ∷ [])
+
+-- a phase names a word at N or above
+abbrev pub phasePast : ℕ → Phase → Bool
+phasePast n Fresh = false
+phasePast n Ready = false
+phasePast n Committed = false
+phasePast n Aborted = false
+phasePast n B1 = false
+phasePast n B2 = false
+phasePast n (R1 w) = leb n w
+phasePast n (R2 v) = false
+phasePast n (W1 w v) = leb n w
+phasePast n (W2 w v) = leb n w
+phasePast n (W3 w v) = leb n w
+phasePast n (W4 w v) = leb n w
+phasePast n (W5 w v) = leb n w
+phasePast n (W6 w v) = leb n w
+phasePast n (W7 w) = leb n w
+phasePast n E1 = false
+phasePast n E2 = false
+phasePast n E3 = false
+
+-- recovery names a word at N or above, or is at C2 with no mark
+abbrev pub unfitRecovery : ℕ → List ℕ → Recovery → Bool
+unfitRecovery n k Idle = false
+unfitRecovery n k C1 = false
+unfitRecovery n k C2 = eqb (countOf k) 0
+unfitRecovery n k (C3 w v) = leb n w
+unfitRecovery n k (C4 w v) = leb n w
+unfitRecovery n k (C5 w v) = leb n w
+unfitRecovery n k C6 = false
+
+-- a loc is above 65,535, or a phase names a word at N or above
+unfoldable pub unfitTx : ℕ → Tx → Bool
+unfitTx n t = anyOf (ltb 65535 (t .loc) ∷ phasePast n (t .phase) ∷ [])
+
+unfoldable pub unfitTxs : ℕ → List Tx → Bool
+unfitTxs n [] = false
+unfitTxs n (t ∷ ts) = pick (unfitTx n t) true (unfitTxs n ts)
+
+-- all that is unfit without a look at the records, from the three rows' lengths, the marks, the count and recovery
+unfoldable pub unfitBeside : ℕ → ℕ → ℕ → List ℕ → ℕ → Recovery → Bool
+unfitBeside vol pers old k g r =
+    anyOf (unfitRows vol pers old ∷ standsFrom k vol ∷ ltb 65535 g ∷ unfitRecovery vol k r ∷ [])
+
+abbrev pub unfitMemory : Memory → Recovery → Bool
+unfitMemory m r = unfitBeside (length (m .vol)) (length (m .pers)) (length (m .old)) (m .marks) (m .glb) r
+
+-- the same with one record
+unfoldable pub unfitOne : ℕ → ℕ → ℕ → List ℕ → ℕ → Recovery → Tx → Bool
+unfitOne vol pers old k g r t = anyOf (unfitBeside vol pers old k g r ∷ unfitTx vol t ∷ [])
+
+unfoldable pub unfit : Store → Bool
+unfit s =
+    anyOf (unfitMemory (s .mem) (s .rec) ∷ not (eqb (length (s .txs)) 64) ∷ unfitTxs (size (s .mem)) (s .txs) ∷ [])
+
+-- ---- the checks
+
+pub record Check : Type 0 where
+  pub applies : Bool
+  pub number : ℕ
+
+infix 80 _⇒_
+abbrev pub _⇒_ : Bool → ℕ → Check
+b ⇒ n = record { applies = b; number = n }
+
+-- first that applies: its number refuses; where none applies, the call is carried out
+abbrev pub first : {A : Type 0} → List Check → (ℕ → A) → A → A
+first [] refuse carriedOut = carriedOut
+first (c ∷ cs) refuse carriedOut = pick (c .applies) (refuse (c .number)) (first cs refuse carriedOut)
+
+abbrev pub notIdle : Recovery → Bool
+notIdle Idle = false
+notIdle C1 = true
+notIdle C2 = true
+notIdle (C3 w v) = true
+notIdle (C4 w v) = true
+notIdle (C5 w v) = true
+notIdle C6 = true
+
+abbrev pub isNew : Stage → Bool
+isNew New = true
+isNew Waiting = false
+isNew AtLine = false
+isNew Over = false
+
+abbrev pub isWaiting : Stage → Bool
+isWaiting New = false
+isWaiting Waiting = true
+isWaiting AtLine = false
+isWaiting Over = false
+
+abbrev pub isAtLine : Stage → Bool
+isAtLine New = false
+isAtLine Waiting = false
+isAtLine AtLine = true
+isAtLine Over = false
+
+-- what can be asked of a transaction's record, and of the store as a whole
+pub data Ask : Type 0 where
+  begin : Ask
+  read : (word : ℕ) → Ask
+  write : (word value : ℕ) → Ask
+  commit : Ask
+  step : Ask
+
+pub data Sys : Type 0 where
+  flush : (word : ℕ) → Sys
+  crash : Sys
+  recover : Sys
+  recoverUpTo : (allowance : ℕ) → Sys
+
+pub data Call : Type 0 where
+  on : (identifier : ℕ) → Ask → Call
+  sys : Sys → Call
+
+-- the checks of a record's call that follow 9 and 11
+abbrev pub askChecks : ℕ → Recovery → Tx → Ask → List Check
+askChecks n r t begin = notIdle r ⇒ 12 ∷ not (isNew (stage (t .phase))) ⇒ 13 ∷ []
+askChecks n r t (read w) = leb n w ⇒ 10 ∷ notIdle r ⇒ 12 ∷ not (isWaiting (stage (t .phase))) ⇒ 14 ∷ []
+askChecks n r t (write w v) = leb n w ⇒ 10 ∷ notIdle r ⇒ 12 ∷ not (isWaiting (stage (t .phase))) ⇒ 14 ∷ []
+askChecks n r t commit = notIdle r ⇒ 12 ∷ not (isWaiting (stage (t .phase))) ⇒ 14 ∷ []
+askChecks n r t step = notIdle r ⇒ 12 ∷ not (isAtLine (stage (t .phase))) ⇒ 15 ∷ []
+
+-- the checks of the other calls that follow 9
+abbrev pub sysChecks : ℕ → Recovery → Sys → List Check
+sysChecks n r (flush w) = leb n w ⇒ 10 ∷ []
+sysChecks n r crash = []
+sysChecks n r recover = not (notIdle r) ⇒ 16 ∷ []
+sysChecks n r (recoverUpTo b) = not (notIdle r) ⇒ 16 ∷ []
+
+abbrev pub checks : Store → Call → List Check
+checks s (on t a) = unfit s ⇒ 9 ∷ leb 64 t ⇒ 11 ∷ askChecks (size (s .mem)) (s .rec) (recordAt (s .txs) t) a
+checks s (sys k) = unfit s ⇒ 9 ∷ sysChecks (size (s .mem)) (s .rec) k

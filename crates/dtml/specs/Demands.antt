@@ -1,0 +1,161 @@
+-- Demands 2 and 3 of the customer's letter, each as one statement, over every schedule of calls from a fresh store of every size.
+use Prim.Native.Nat.{ℕ, _+_, _-_, _*_, _≤_, _<_, min}
+use mathlib.Core.Path.{_≡_}
+use mathlib.Core.Bool.{Bool, true, false}
+use mathlib.Core.Logic.{_⊎_, _↔_}
+use mathlib.Core.List.{List, [], _∷_}
+use lib.ListN.{length, getD, replicate}
+use lib.Dec.{leb}
+use Rattle.marks.specs.Marks.{pick, isMarked, countOf}
+use Rattle.dtml.specs.declared.Phase.the-variants.{E2, E3}
+use Rattle.dtml.specs.Table.{says}
+use Rattle.dtml.specs.Store.{Memory, Store, recordAt}
+use Rattle.dtml.specs.Lines.{Did, Healed}
+use Rattle.dtml.specs.Checks.{Ask, read, step, Sys, crash, recover, recoverUpTo, Call, on, sys, notIdle}
+use Rattle.dtml.specs.Calls.{call, refused, placed, settled}
+use Rattle.dtml.specs.Figure1.{Line, RecoveryLine}
+use Rattle.dtml.specs.History.{over, sees, Past, last, taleAt, World, tell, dawn, runs}
+
+-- a schedule from a fresh store of n words, n from 1 to 256, and the world after it
+abbrev pub Size : ℕ → Type 0
+Size n = (0 < n) × (n ≤ 256)
+
+abbrev pub after : ℕ → List Call → World
+after n cs = runs (dawn n) cs
+
+-- the call's answer
+abbrev pub number : World → Call → ℕ
+number w c = call (w .store) c .reply .number
+
+abbrev pub value : World → Call → ℕ
+value w c = call (w .store) c .reply .value
+
+-- ---- 1. One line
+
+abbrev pub Refused : Store → Call → Type 0
+Refused s c = (k : ℕ) × (9 ≤ k) × (call s c ≡ refused s k)
+
+-- Each step does exactly one line of the published algorithm, on transaction t's record and the memory; nothing else moves.
+abbrev pub OneLine : Type 0
+OneLine = (s : Store) (t : ℕ) → Refused s (on t step)
+    ⊎ ((d : Did) × Line (s .mem) (recordAt (s .txs) t .loc) (recordAt (s .txs) t .phase) d
+    × ((d′ : Did) → Line (s .mem) (recordAt (s .txs) t .loc) (recordAt (s .txs) t .phase) d′ → d′ ≡ d)
+    × (call s (on t step) ≡ placed s t d))
+
+abbrev pub OneRecoveryLine : Type 0
+OneRecoveryLine = (s : Store) → Refused s (sys recover)
+    ⊎ ((h : Healed) × RecoveryLine (s .mem) (s .rec) h
+    × ((h′ : Healed) → RecoveryLine (s .mem) (s .rec) h′ → h′ ≡ h)
+    × (call s (sys recover) ≡ settled (s .txs) h))
+
+-- ---- 2. Committed memories
+
+-- They start with all zeros; each E2 that is carried out adds one, the memory before with that transaction's writes over it;
+pub record CommittedMemories : Type 0 where
+  pub start : (n : ℕ) → (last (after n [] .past) ≡ replicate n 0) × (after n [] .past .later ≡ [])
+  pub each-E2 : (w : World) (t : ℕ) → recordAt (w .store .txs) t .phase ≡ E2 → number w (on t step) < 9
+      → tell w (on t step) .past .later ≡ over (last (w .past)) (taleAt (w .past .tales) t .wrote) ∷ w .past .later
+  -- nothing else adds to them.
+  pub nothing-else : (w : World) (c : Call) → ((t : ℕ) → c ≡ on t step → recordAt (w .store .txs) t .phase ≡ E2 → ⊥)
+      → tell w c .past .later ≡ w .past .later
+
+-- ---- 3. Durability
+
+-- the persistent word, or the old word of a marked one
+abbrev pub overlaid : Memory → ℕ → ℕ
+overlaid m w = pick (isMarked (m .marks) w) (getD (m .old) w 0) (getD (m .pers) w 0)
+
+-- The persistent words overlaid by the undo log are the last committed memory.
+abbrev pub Durable : Type 0
+Durable = (n : ℕ) (cs : List Call) → Size n
+    → (length (last (after n cs .past)) ≡ n) × (length (after n cs .store .mem .pers) ≡ n)
+    × ((w : ℕ) → w < n → overlaid (after n cs .store .mem) w ≡ getD (last (after n cs .past)) w 0)
+
+-- ---- 4. A join is whole
+
+abbrev pub BothSides : Memory → List ℕ → Type 0
+BothSides m l = (m .vol ≡ l) × (m .pers ≡ l)
+
+-- When recovery answers 6, both sides hold exactly the last committed memory,
+abbrev pub WholeWhenHealed : Type 0
+WholeWhenHealed = (n : ℕ) (cs : List Call) (c : Call) → Size n → number (after n cs) c ≡ 6
+    → BothSides (tell (after n cs) c .store .mem) (last (after n cs .past))
+
+-- and at every moment at which recovery is idle and no writer stands between its W2 and its E2.
+abbrev pub WholeWhenIdle : Type 0
+WholeWhenIdle = (n : ℕ) (cs : List Call) → Size n → notIdle (after n cs .store .rec) ≡ false
+    → ((t : ℕ) → t < 64 → taleAt (after n cs .past .tales) t .writing ≡ false)
+    → BothSides (after n cs .store .mem) (last (after n cs .past))
+
+-- recovery is not idle at any moment of ds
+abbrev pub NeverIdle : World → List Call → Type 0
+NeverIdle w [] = notIdle (w .store .rec) ≡ true
+NeverIdle w (c ∷ cs) = (notIdle (w .store .rec) ≡ true) × NeverIdle (tell w c) cs
+
+-- What a crash cuts: once recovery answers 6, after whatever else came in between, both sides hold the memory that was the last committed one
+-- at the crash. So a transaction cut before its E2 has left no word behind,
+abbrev pub CutBeforeE2 : Type 0
+CutBeforeE2 = (n : ℕ) (cs ds : List Call) (c : Call) → Size n → NeverIdle (tell (after n cs) (sys crash)) ds
+    → number (runs (tell (after n cs) (sys crash)) ds) c ≡ 6
+    → BothSides (tell (runs (tell (after n cs) (sys crash)) ds) c .store .mem) (last (after n cs .past))
+
+-- and one cut after it has all of them: its writes are in that memory.
+abbrev pub CutAfterE2 : Type 0
+CutAfterE2 = (n : ℕ) (cs : List Call) (t : ℕ) → Size n → t < 64 → recordAt (after n cs .store .txs) t .phase ≡ E3
+    → (before : List ℕ) × (last (after n cs .past) ≡ over before (taleAt (after n cs .past .tales) t .wrote))
+
+-- ---- 5. Reads
+
+-- Every answer 2 shows its transaction's own latest write to that word, or else the committed word as it stood at that transaction's latest B1.
+abbrev pub Reads : Type 0
+Reads = (n : ℕ) (cs : List Call) (c : Call) → Size n → number (after n cs) c ≡ 2
+    → (t : ℕ) × (w : ℕ) × (c ≡ on t step) × (taleAt (after n cs .past .tales) t .asked ≡ read w)
+    × (value (after n cs) c ≡ sees (taleAt (after n cs .past .tales) t .wrote) (taleAt (after n cs .past .tales) t .start) w)
+
+-- ---- 6. Recovery's cost
+
+-- The recovery lines carried out are at most five for each word that a transaction cut off by a crash before its E2 had entered, plus four for each crash.
+abbrev pub RecoveryCost : Type 0
+RecoveryCost = (n : ℕ) (cs : List Call) → Size n
+    → after n cs .past .lines ≤ 5 * after n cs .past .cut + 4 * after n cs .past .crashes
+
+-- ---- 7. Recovery's exact cost
+
+abbrev pub NoCrash : List Call → Type 0
+NoCrash [] = Unit {0}
+NoCrash (c ∷ cs) = (c ≡ sys crash → ⊥) × NoCrash cs
+
+-- The world in which a crash has just come, the words that it left in the log, and the recovery lines carried out since.
+abbrev pub crashed : ℕ → List Call → World
+crashed n cs = tell (after n cs) (sys crash)
+
+abbrev pub logged : World → ℕ
+logged w = countOf (w .store .mem .marks)
+
+-- If a crash leaves k words in the log and no other crash comes before it is done, exactly 5k + 2 recovery lines finish the work,
+-- with anything else the schedule does in between.
+abbrev pub ExactCost : Type 0
+ExactCost = (n : ℕ) (cs ds : List Call) → Size n → NoCrash ds
+    → (runs (crashed n cs) ds .past .lines ≤ crashed n cs .past .lines + (5 * logged (crashed n cs) + 2))
+    × ((notIdle (runs (crashed n cs) ds .store .rec) ≡ false)
+    ↔ (runs (crashed n cs) ds .past .lines ≡ crashed n cs .past .lines + (5 * logged (crashed n cs) + 2)))
+
+-- With an allowance b, min(b, lines left) are done: the call leaves the world that as many single calls leave; and that many are reported,
+-- with 6 if they are all that were left.
+abbrev pub linesLeft : ℕ → List Call → List Call → ℕ
+linesLeft n cs ds = (crashed n cs .past .lines + (5 * logged (crashed n cs) + 2)) - runs (crashed n cs) ds .past .lines
+
+abbrev pub Allowance : Type 0
+Allowance = (n : ℕ) (cs ds : List Call) (b : ℕ) → Size n → NoCrash ds → notIdle (runs (crashed n cs) ds .store .rec) ≡ true
+    → (call (runs (crashed n cs) ds .store) (sys (recoverUpTo b)) .reply
+    ≡ says (pick (leb (linesLeft n cs ds) b) 6 0) (min b (linesLeft n cs ds)))
+    × (tell (runs (crashed n cs) ds) (sys (recoverUpTo b))
+    ≡ runs (runs (crashed n cs) ds) (replicate (min b (linesLeft n cs ds)) (sys recover)))
+
+-- ---- 8. Nothing unfit
+
+-- From fresh no call ever answers 9, and count and loc stay far below 65,535.
+abbrev pub NothingUnfit : Type 0
+NothingUnfit = (n : ℕ) (cs : List Call) → Size n
+    → ((c : Call) → number (after n cs) c ≡ 9 → ⊥) × (after n cs .store .mem .glb ≤ 128)
+    × ((t : ℕ) → t < 64 → recordAt (after n cs .store .txs) t .loc ≤ 128)
