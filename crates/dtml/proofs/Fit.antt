@@ -15,7 +15,7 @@ use Rattle.dtml.specs.declared.Recovery.{Recovery}
 use Rattle.dtml.specs.declared.Recovery.the-variants.{Idle, C1, C2, C3, C4, C5, C6}
 use Rattle.dtml.specs.Table.{Reply, says}
 use Rattle.dtml.specs.Store.{Memory}
-use Rattle.dtml.specs.Lines.{healed, heal, flushOf, withMarks, withGlb, choose, anyMark, recoveryLine}
+use Rattle.dtml.specs.Lines.{healed, heal, flushOf, withMarks, choose, anyMark, recoveryLine}
 use Rattle.dtml.specs.Checks.{anyOf, unfitRows, phasePast, unfitRecovery, unfitTx, unfitBeside, unfitMemory, unfitOne, notIdle}
 use Rattle.dtml.specs.Calls.{oneMore, upTo}
 
@@ -28,9 +28,6 @@ last false = refl
 pub none : (b c : Bool) → pick b true c ≡ false → (b ≡ false) × (c ≡ false)
 none true c h = (h, cc)
 none false c h = (refl, h)
-
-pub neither : (b c : Bool) → b ≡ false → c ≡ false → pick b true c ≡ false
-neither b c p q = rw (p, q)
 
 -- ---- the rows, the marks, the count and recovery
 
@@ -135,67 +132,54 @@ unmark-in k n w inside = laws .none-stands (unmarkOf k w) n λ v h. go v h (eqb 
 
 -- ---- a recovery line leaves a fit store fit
 
-moved : {vol pers old : ℕ} {k : List ℕ} {g : ℕ} {r : Recovery} (to : Recovery) → FitBeside vol pers old k g r → unfitRecovery vol k to ≡ false → unfitBeside vol pers old k g to ≡ false
-moved to f there =
+abbrev pub FitMemory : Memory → Recovery → Type 0
+FitMemory m r = FitBeside (length (m .vol)) (length (m .pers)) (length (m .old)) (m .marks) (m .glb) r
+
+pub memory-fits : (m : Memory) (r : Recovery) → unfitMemory m r ≡ false → FitMemory m r
+memory-fits m r h = fits (length (m .vol)) (length (m .pers)) (length (m .old)) (m .marks) (m .glb) r h
+
+-- with other marks, another count and recovery elsewhere
+changed : {vol pers old : ℕ} {k : List ℕ} {g : ℕ} {r : Recovery} (k′ : List ℕ) (g′ : ℕ) (r′ : Recovery) → FitBeside vol pers old k g r
+    → standsFrom k′ vol ≡ false → g′ ≤ 65535 → unfitRecovery vol k′ r′ ≡ false → unfitBeside vol pers old k′ g′ r′ ≡ false
+changed k′ g′ r′ f marks glb recovery =
     fit-beside
     (record {
       pers-long = f .pers-long;
       old-long = f .old-long;
       some = f .some;
       few = f .few;
-      marks-in = f .marks-in;
-      glb-low = f .glb-low;
-      recovery-in = there;
+      marks-in = marks;
+      glb-low = glb;
+      recovery-in = recovery;
     })
 
-memory-fits : (m : Memory) (r : Recovery) → unfitMemory m r ≡ false → FitBeside (length (m .vol)) (length (m .pers)) (length (m .old)) (m .marks) (m .glb) r
-memory-fits m r h = fits (length (m .vol)) (length (m .pers)) (length (m .old)) (m .marks) (m .glb) r h
+moved : {vol pers old : ℕ} {k : List ℕ} {g : ℕ} {r : Recovery} (r′ : Recovery) → FitBeside vol pers old k g r → unfitRecovery vol k r′ ≡ false
+    → unfitBeside vol pers old k g r′ ≡ false
+moved {k = k} {g = g} r′ f there = changed k g r′ f (f .marks-in) (f .glb-low) there
 
 -- C1 goes to C2 only with a mark
-after-c1 : (m : Memory) (b : Bool) → eqb (countOf (m .marks)) 0 ≡ b → unfitMemory m C1 ≡ false
+after-c1 : (m : Memory) (b : Bool) → eqb (countOf (m .marks)) 0 ≡ b → FitMemory m C1
     → unfitMemory (pick (not b) (heal m C2) (heal m C6) .mem) (pick (not b) (heal m C2) (heal m C6) .rec) ≡ false
-after-c1 m true e h = moved C6 (memory-fits m C1 h) refl
-after-c1 m false e h = moved C2 (memory-fits m C1 h) e
+after-c1 m true e f = moved C6 f refl
+after-c1 m false e f = moved C2 f e
 
-after-c2 : (m : Memory) → FitBeside (length (m .vol)) (length (m .pers)) (length (m .old)) (m .marks) (m .glb) C2 → unfitMemory m (choose m) ≡ false
+after-c2 : (m : Memory) → FitMemory m C2 → unfitMemory m (choose m) ≡ false
 after-c2 m f =
     moved (choose m) f (lt-leb (length (m .vol)) (lowestOf (m .marks)) (lowest-in (m .marks) (length (m .vol)) (f .marks-in) (f .recovery-in)))
 
-after-c5 : (m : Memory) (w v : ℕ) → FitBeside (length (m .vol)) (length (m .pers)) (length (m .old)) (m .marks) (m .glb) (C5 w v) → unfitMemory (withMarks m (unmarkOf (m .marks) w)) C1 ≡ false
+after-c5 : (m : Memory) (w v : ℕ) → FitMemory m (C5 w v) → unfitMemory (withMarks m (unmarkOf (m .marks) w)) C1 ≡ false
 after-c5 m w v f =
-    fit-beside
-    (record {
-      pers-long = f .pers-long;
-      old-long = f .old-long;
-      some = f .some;
-      few = f .few;
-      marks-in = unmark-in (m .marks) (length (m .vol)) w (f .marks-in);
-      glb-low = f .glb-low;
-      recovery-in = refl;
-    })
-
-after-c6 : (m : Memory) → FitBeside (length (m .vol)) (length (m .pers)) (length (m .old)) (m .marks) (m .glb) C6 → unfitMemory (withGlb m 0) Idle ≡ false
-after-c6 m f =
-    fit-beside
-    (record {
-      pers-long = f .pers-long;
-      old-long = f .old-long;
-      some = f .some;
-      few = f .few;
-      marks-in = f .marks-in;
-      glb-low = zero-le;
-      recovery-in = refl;
-    })
+    changed (unmarkOf (m .marks) w) (m .glb) C1 f (unmark-in (m .marks) (length (m .vol)) w (f .marks-in)) (f .glb-low) refl
 
 pub keeps : (m : Memory) (r : Recovery) → unfitMemory m r ≡ false → unfitMemory (recoveryLine m r .mem) (recoveryLine m r .rec) ≡ false
 unfolding recoveryLine flushOf
 keeps m Idle h = h
-keeps m C1 h = after-c1 m (eqb (countOf (m .marks)) 0) refl h
+keeps m C1 h = after-c1 m (eqb (countOf (m .marks)) 0) refl (memory-fits m C1 h)
 keeps m C2 h = after-c2 m (memory-fits m C2 h)
 keeps m (C3 w v) h = let f = memory-fits m (C3 w v) h in rw length-set (moved (C4 w v) f (f .recovery-in))
 keeps m (C4 w v) h = let f = memory-fits m (C4 w v) h in rw length-set (moved (C5 w v) f (f .recovery-in))
 keeps m (C5 w v) h = after-c5 m w v (memory-fits m (C5 w v) h)
-keeps m C6 h = after-c6 m (memory-fits m C6 h)
+keeps m C6 h = let f = memory-fits m C6 h in changed (m .marks) 0 Idle f (f .marks-in) zero-le refl
 
 -- ---- the lines up to an allowance
 

@@ -13,3 +13,4 @@ pub mod Figure
 pub mod Fitness
 pub mod Cost
 pub mod Demands
+pub mod Lift

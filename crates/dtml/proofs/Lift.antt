@@ -1,0 +1,92 @@
+-- A call on a whole fit store is the call on what it is handed: the record named, or none. A refusal of the smaller call puts back what it was handed.
+use Prim.Native.Nat.{ℕ, zero, suc, _≤_, _<_}
+use native.Mathlib.Omega.{arith}
+use borrow.Author.Tests.{le-leb, lt-leb, not-false, eqb-true}
+use mathlib.Core.Path.{_≡_, refl, sym, ap, _∙_}
+use mathlib.Core.Bool.{Bool, true, false, not}
+use mathlib.Core.List.{List, [], _∷_}
+use lib.ListN.{length, getD, set}
+use lib.Seq.{set-getD}
+use lib.Dec.{leb, eqb}
+use Rattle.marks.specs.Marks.{pick}
+use Rattle.dtml.specs.declared.Tx.{Tx}
+use Rattle.dtml.specs.declared.Phase.the-variants.{Fresh}
+use Rattle.dtml.specs.declared.Recovery.{Recovery}
+use Rattle.dtml.specs.Table.{says}
+use Rattle.dtml.specs.Store.{Memory, Store, store, recordAt, tx, size}
+use Rattle.dtml.specs.Lines.{Did, did, Healed, healed}
+use Rattle.dtml.specs.Checks.{Check, first, anyOf, unfit, unfitMemory, unfitTx, unfitTxs, unfitOne, checks, askChecks, sysChecks, Ask, Sys, flush, crash, recover, recoverUpTo, on, sys}
+use Rattle.dtml.specs.Calls.{ask, system, systemTxs, act, call, Outcome, outcome, refused, placed, settled, callOne, callSystem}
+use Rattle.dtml.proofs.Fit.{none, last, fit-one}
+
+-- what is done with the outcome of a call, done with each of its ways
+first-lift : {A B : Type 0} (f : A → B) (cs : List Check) (g : ℕ → A) (h : ℕ → B) (x : A) → ((n : ℕ) → f (g n) ≡ h n) → f (first cs g x) ≡ first cs h (f x)
+first-lift f [] g h x e = refl
+first-lift {A} {B} f (c ∷ cs) g h x e = go (c .applies) (first-lift f cs g h x e)
+  where
+    go : (b : Bool) → f (first cs g x) ≡ first cs h (f x) → f (pick b (g (c .number)) (first cs g x)) ≡ pick b (h (c .number)) (first cs h (f x))
+    go true q = e (c .number)
+    go false q = q
+
+-- a fit row's records are fit
+record-fit : (n : ℕ) (ts : List Tx) (t : ℕ) → t < length ts → unfitTxs n ts ≡ false → unfitTx n (recordAt ts t) ≡ false
+unfolding unfitTxs
+record-fit n [] t h e = absurd (let z : t < 0 = h in omega arith)
+record-fit n (x ∷ ts) zero h e = none (unfitTx n x) (unfitTxs n ts) e .0
+record-fit n (x ∷ ts) (suc t) h e = record-fit n ts t (omega arith) (none (unfitTx n x) (unfitTxs n ts) e .1)
+
+pub record FitStore (s : Store) : Type 0 where
+  pub beside : unfitMemory (s .mem) (s .rec) ≡ false
+  pub long : length (s .txs) ≡ 64
+  pub records : unfitTxs (size (s .mem)) (s .txs) ≡ false
+
+pub store-fits : (s : Store) → unfit s ≡ false → FitStore s
+unfolding unfit
+store-fits s h =
+    let a = none (unfitMemory (s .mem) (s .rec)) (anyOf (not (eqb (length (s .txs)) 64) ∷ unfitTxs (size (s .mem)) (s .txs) ∷ [])) h in
+    let b = none (not (eqb (length (s .txs)) 64)) (anyOf (unfitTxs (size (s .mem)) (s .txs) ∷ [])) (a .1) in
+    record { beside = a .0; long = eqb-true (length (s .txs)) 64 (not-false _ (b .0)); records = last (unfitTxs (size (s .mem)) (s .txs)) ∙ b .1 }
+
+pub unfit-call : (s : Store) (t : ℕ) (a : Ask) → unfit s ≡ true → call s (on t a) ≡ refused s 9
+unfolding call
+unfit-call s t a h = rw h
+
+pub unfit-system : (s : Store) (k : Sys) → unfit s ≡ true → call s (sys k) ≡ refused s 9
+unfolding call
+unfit-system s k h = rw h
+
+pub no-record : (s : Store) (t : ℕ) (a : Ask) → unfit s ≡ false → 64 ≤ t → call s (on t a) ≡ refused s 11
+unfolding call
+no-record s t a h b = rw (h, le-leb 64 t b)
+
+-- a call on record t of a fit store
+pub on-record : (s : Store) (t : ℕ) (a : Ask) → unfit s ≡ false → t < 64 → call s (on t a) ≡ placed s t (callOne (s .mem) (s .rec) (recordAt (s .txs) t) a)
+unfolding call callOne act
+on-record s t a h ht =
+    let f = store-fits s h in
+    let own = record-fit (size (s .mem)) (s .txs) t (rw (f .long) ht) (f .records) in
+    rw (h, lt-leb 64 t ht, fit-one (record { beside = f .beside; own = own }))
+    (sym (first-lift (placed s t) (askChecks (size (s .mem)) (s .rec) (recordAt (s .txs) t) a)
+    (λ n. did (says n 0) (s .mem) (recordAt (s .txs) t)) (refused s) (ask (s .mem) (recordAt (s .txs) t) a)
+    (λ n. ap (λ ts. outcome (says n 0) (store (s .mem) (s .rec) ts)) (set-getD (s .txs) t (tx 0 Fresh)))))
+
+-- a call on no record of a fit store
+settled-lift : (s : Store) (k : Sys)
+    → first (sysChecks (size (s .mem)) (s .rec) k) (refused s) (settled (s .txs) (system (s .mem) (s .rec) k))
+    ≡ settled (s .txs) (first (sysChecks (size (s .mem)) (s .rec) k) (λ n. healed (says n 0) (s .mem) (s .rec)) (system (s .mem) (s .rec) k))
+settled-lift s k =
+    sym (first-lift (settled (s .txs)) (sysChecks (size (s .mem)) (s .rec) k) (λ n. healed (says n 0) (s .mem) (s .rec)) (refused s)
+    (system (s .mem) (s .rec) k) (λ n. refl))
+
+pub on-system : (s : Store) (k : Sys) → unfit s ≡ false → call s (sys k) ≡ settled (systemTxs k (s .txs)) (callSystem (s .mem) (s .rec) k)
+unfolding call callSystem act
+on-system s (flush w) h = rw (h, store-fits s h .beside) (settled-lift s (flush w))
+on-system s crash h = rw (h, store-fits s h .beside)
+on-system s recover h = rw (h, store-fits s h .beside) (settled-lift s recover)
+on-system s (recoverUpTo b) h = rw (h, store-fits s h .beside) (settled-lift s (recoverUpTo b))
+
+-- an element is the same whatever stands for those past the end
+pub default-free : (ts : List Tx) (t : ℕ) (d : Tx) → t < length ts → getD ts t d ≡ recordAt ts t
+default-free [] t d h = absurd (let z : t < 0 = h in omega arith)
+default-free (x ∷ ts) zero d h = refl
+default-free (x ∷ ts) (suc t) d h = default-free ts t d (omega arith)

@@ -1,0 +1,3 @@
+-- What the lines' proofs share.
+mod Room
+mod Tests

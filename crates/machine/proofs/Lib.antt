@@ -1,0 +1,2 @@
+mod Suffixes
+mod Whole

@@ -1,0 +1,199 @@
+// Tests of what a call is handed: what is unfit, and what a phase or recovery allows.
+use dtml::Phase;
+use dtml::Recovery;
+use dtml::Stage;
+use dtml::Tx;
+use marks::Marks;
+ghost use mathlib.Core.Path.{_≡_};
+ghost use Rattle.dtml.specs.Lines.{stage as stageOf, isLive};
+ghost use Rattle.dtml.specs.Checks.{unfitRows, unfitRecovery, unfitTx, unfitBeside, unfitOne, phasePast, notIdle, isNew, isWaiting, isAtLine};
+
+// The lengths of the three word rows do not fit.
+pub fn unfit_rows(vol: usize, pers: usize, old: usize) -> bool
+    ensures { λ r. ⌜ r ≡ unfitRows vol pers old ⌝ }
+{
+    if vol != pers {
+        return true;
+    }
+    if vol != old {
+        return true;
+    }
+    if vol == 0 {
+        return true;
+    }
+    256 < vol
+}
+
+// The phase names a word at n or above.
+pub fn phase_past(n: usize, p: Phase) -> bool
+    ensures { λ r. ⌜ r ≡ phasePast n p ⌝ }
+{
+    match p {
+        Phase::Fresh => false,
+        Phase::Ready => false,
+        Phase::Committed => false,
+        Phase::Aborted => false,
+        Phase::B1 => false,
+        Phase::B2 => false,
+        Phase::R1 { word } => n <= word as usize,
+        Phase::R2 { value: _ } => false,
+        Phase::W1 { word, value: _ } => n <= word as usize,
+        Phase::W2 { word, value: _ } => n <= word as usize,
+        Phase::W3 { word, value: _ } => n <= word as usize,
+        Phase::W4 { word, value: _ } => n <= word as usize,
+        Phase::W5 { word, value: _ } => n <= word as usize,
+        Phase::W6 { word, value: _ } => n <= word as usize,
+        Phase::W7 { word } => n <= word as usize,
+        Phase::E1 => false,
+        Phase::E2 => false,
+        Phase::E3 => false,
+    }
+}
+
+// Recovery names a word at n or above, or is at C2 with no mark.
+pub fn unfit_recovery(n: usize, marks: Marks, recovery: Recovery) -> bool
+    ensures { λ r. ⌜ r ≡ unfitRecovery n marks recovery ⌝ }
+{
+    match recovery {
+        Recovery::Idle => false,
+        Recovery::C1 => false,
+        Recovery::C2 => marks::count(marks) == 0,
+        Recovery::C3 { word, value: _ } => n <= word as usize,
+        Recovery::C4 { word, value: _ } => n <= word as usize,
+        Recovery::C5 { word, value: _ } => n <= word as usize,
+        Recovery::C6 => false,
+    }
+}
+
+pub fn unfit_tx(n: usize, tx: Tx) -> bool
+    ensures { λ r. ⌜ r ≡ unfitTx n tx ⌝ }
+{
+    if 65535 < tx.loc {
+        return true;
+    }
+    let phase = tx.phase;
+    phase_past(n, phase)
+}
+
+// Unfit, without a look at the records; vol, pers and old are the lengths of the three word rows.
+pub fn unfit_beside(
+    vol: usize,
+    pers: usize,
+    old: usize,
+    marks: Marks,
+    glb: u32,
+    recovery: Recovery,
+) -> bool
+    ensures { λ r. ⌜ r ≡ unfitBeside vol pers old marks glb recovery ⌝ }
+{
+    if unfit_rows(vol, pers, old) {
+        return true;
+    }
+    if marks::stands_from(marks, vol as u64) {
+        return true;
+    }
+    if 65535 < glb {
+        return true;
+    }
+    unfit_recovery(vol, marks, recovery)
+}
+
+pub fn unfit_one(
+    vol: usize,
+    pers: usize,
+    old: usize,
+    marks: Marks,
+    glb: u32,
+    recovery: Recovery,
+    tx: Tx,
+) -> bool
+    ensures { λ r. ⌜ r ≡ unfitOne vol pers old marks glb recovery tx ⌝ }
+{
+    if unfit_beside(vol, pers, old, marks, glb, recovery) {
+        return true;
+    }
+    unfit_tx(vol, tx)
+}
+
+pub fn stage(p: Phase) -> Stage
+    ensures { λ r. ⌜ r ≡ stageOf p ⌝ }
+{
+    match p {
+        Phase::Fresh => Stage::New,
+        Phase::Ready => Stage::Waiting,
+        Phase::Committed => Stage::Over,
+        Phase::Aborted => Stage::Over,
+        Phase::B1 => Stage::AtLine,
+        Phase::B2 => Stage::AtLine,
+        Phase::R1 { word: _ } => Stage::AtLine,
+        Phase::R2 { value: _ } => Stage::AtLine,
+        Phase::W1 { word: _, value: _ } => Stage::AtLine,
+        Phase::W2 { word: _, value: _ } => Stage::AtLine,
+        Phase::W3 { word: _, value: _ } => Stage::AtLine,
+        Phase::W4 { word: _, value: _ } => Stage::AtLine,
+        Phase::W5 { word: _, value: _ } => Stage::AtLine,
+        Phase::W6 { word: _, value: _ } => Stage::AtLine,
+        Phase::W7 { word: _ } => Stage::AtLine,
+        Phase::E1 => Stage::AtLine,
+        Phase::E2 => Stage::AtLine,
+        Phase::E3 => Stage::AtLine,
+    }
+}
+
+pub fn is_new(s: Stage) -> bool
+    ensures { λ r. ⌜ r ≡ isNew s ⌝ }
+{
+    match s {
+        Stage::New => true,
+        Stage::Waiting => false,
+        Stage::AtLine => false,
+        Stage::Over => false,
+    }
+}
+
+pub fn is_waiting(s: Stage) -> bool
+    ensures { λ r. ⌜ r ≡ isWaiting s ⌝ }
+{
+    match s {
+        Stage::New => false,
+        Stage::Waiting => true,
+        Stage::AtLine => false,
+        Stage::Over => false,
+    }
+}
+
+pub fn is_at_line(s: Stage) -> bool
+    ensures { λ r. ⌜ r ≡ isAtLine s ⌝ }
+{
+    match s {
+        Stage::New => false,
+        Stage::Waiting => false,
+        Stage::AtLine => true,
+        Stage::Over => false,
+    }
+}
+
+pub fn is_live(s: Stage) -> bool
+    ensures { λ r. ⌜ r ≡ isLive s ⌝ }
+{
+    match s {
+        Stage::New => false,
+        Stage::Waiting => true,
+        Stage::AtLine => true,
+        Stage::Over => false,
+    }
+}
+
+pub fn not_idle(recovery: Recovery) -> bool
+    ensures { λ r. ⌜ r ≡ notIdle recovery ⌝ }
+{
+    match recovery {
+        Recovery::Idle => false,
+        Recovery::C1 => true,
+        Recovery::C2 => true,
+        Recovery::C3 { word: _, value: _ } => true,
+        Recovery::C4 { word: _, value: _ } => true,
+        Recovery::C5 { word: _, value: _ } => true,
+        Recovery::C6 => true,
+    }
+}

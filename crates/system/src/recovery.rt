@@ -1,0 +1,129 @@
+// The lines of recovery, C1 to C6.
+use crate::Heal;
+use dtml::Answer;
+use dtml::Recovery;
+use marks::Marks;
+use parts::fit::not_idle;
+use parts::words::flush_word;
+ghost use mathlib.Core.Path.{_≡_};
+ghost use mathlib.Core.Bool.{true, false};
+ghost use Prim.Native.Nat.{_<_};
+ghost use lib.ListN.{length, getD};
+ghost use Rattle.marks.specs.Marks.{pick, lowestOf};
+ghost use Rattle.dtml.specs.Store.{memory};
+ghost use Rattle.dtml.specs.Lines.{anyMark, recoveryLine};
+ghost use Rattle.dtml.specs.Table.{says};
+ghost use Rattle.dtml.specs.Checks.{unfitBeside, notIdle};
+ghost use Rattle.dtml.specs.Calls.{upTo};
+ghost use Rattle.system.specs.Healing.{healOf, healedOf};
+
+pub(crate) fn heal(recovery: Recovery) -> Heal
+    ensures { λ r. ⌜ r ≡ healOf (Answer.Taken 0) recovery ⌝ }
+{
+    Heal {
+        answer: Answer::Taken { lines: 0 },
+        recovery,
+    }
+}
+
+fn c1(marks: Marks) -> Recovery
+    ensures { λ r. ⌜ r ≡ pick (anyMark marks) Recovery.C2 Recovery.C6 ⌝ }
+{
+    if marks::count(marks) != 0 {
+        Recovery::C2
+    } else {
+        Recovery::C6
+    }
+}
+
+fn c2(old: &[u32], marks: Marks) -> Recovery
+    requires { ⌜ (lowestOf marks < length (now old)) × (lowestOf marks < 256) ⌝ }
+    ensures { λ r. ⌜ r ≡ Recovery.C3 (lowestOf marks) (getD (now (old .entry)) (lowestOf marks) 0) ⌝ }
+{
+    let w = marks::lowest(marks);
+    let value = old[w as usize];
+    let word = w as u32;
+    Recovery::C3 { word, value }
+}
+
+// One line, the one at which recovery stands.
+pub(crate) fn recovery_line(
+    vol: &mut [u32],
+    pers: &mut [u32],
+    old: &[u32],
+    marks: &mut Marks,
+    glb: &mut u32,
+    recovery: Recovery,
+) -> Heal
+    requires { ⌜ unfitBeside (length (now vol)) (length (now pers)) (length (now old)) (now marks) (now glb) recovery ≡ false ⌝ }
+    ensures { λ r. ⌜ healedOf r (memory (now (vol .exit)) (now (pers .exit)) (now (old .entry)) (now (marks .exit)) (now (glb .exit)))
+        ≡ recoveryLine (memory (now (vol .entry)) (now (pers .entry)) (now (old .entry)) (now (marks .entry)) (now (glb .entry))) recovery ⌝ }
+{
+    match recovery {
+        Recovery::Idle => heal(Recovery::Idle),
+        Recovery::C1 => heal(c1(*marks)),
+        Recovery::C2 => heal(c2(old, *marks)),
+        Recovery::C3 { word, value } => {
+            vol[word as usize] = value;
+            heal(Recovery::C4 { word, value })
+        }
+        Recovery::C4 { word, value } => {
+            flush_word(&*vol, pers, word as usize);
+            heal(Recovery::C5 { word, value })
+        }
+        Recovery::C5 { word, value: _ } => {
+            *marks = marks::unmark(*marks, word as u64);
+            heal(Recovery::C1)
+        }
+        Recovery::C6 => {
+            *glb = 0;
+            Heal {
+                answer: Answer::Recovered { lines: 0 },
+                recovery: Recovery::Idle,
+            }
+        }
+    }
+}
+
+// What the lines carried out so far answer: 6 if C6 was among them, after which recovery is idle.
+fn answered(recovery: Recovery, lines: u64) -> Heal
+    ensures { λ r. ⌜ r ≡ healOf (pick (notIdle recovery) (Answer.Taken lines) (Answer.Recovered lines)) recovery ⌝ }
+{
+    if not_idle(recovery) {
+        Heal {
+            answer: Answer::Taken { lines },
+            recovery,
+        }
+    } else {
+        Heal {
+            answer: Answer::Recovered { lines },
+            recovery,
+        }
+    }
+}
+
+pub(crate) fn recovery_lines(
+    vol: &mut [u32],
+    pers: &mut [u32],
+    old: &[u32],
+    marks: &mut Marks,
+    glb: &mut u32,
+    recovery: Recovery,
+    allowance: u64,
+) -> Heal
+    requires { ⌜ (unfitBeside (length (now vol)) (length (now pers)) (length (now old)) (now marks) (now glb) recovery ≡ false) × (notIdle recovery ≡ true) ⌝ }
+    ensures { λ r. ⌜ healedOf r (memory (now (vol .exit)) (now (pers .exit)) (now (old .entry)) (now (marks .exit)) (now (glb .exit)))
+        ≡ upTo allowance (says 0 0) (memory (now (vol .entry)) (now (pers .entry)) (now (old .entry)) (now (marks .entry)) (now (glb .entry))) recovery ⌝ }
+{
+    let mut at = recovery;
+    let mut lines: u64 = 0;
+    while lines < allowance {
+        if !not_idle(at) {
+            return answered(at, lines);
+        }
+        let h = recovery_line(vol, pers, old, marks, glb, at);
+        at = h.recovery;
+        lines += 1;
+    }
+    answered(at, lines)
+}
