@@ -1,6 +1,6 @@
 -- Fitness, part by part: a test over several clauses is false exactly when each clause is false, and a clause is false when the bound it tests holds.
 -- From the parts: a recovery line leaves a fit store fit (C2's word is marked, and a mark is below N), and how `upTo` takes one line more.
-use Prim.Native.Nat.{ℕ, zero, suc, _≤_, zero-le, _<_}
+use Prim.Native.Nat.{ℕ, zero, suc, _+_, _≤_, zero-le, _<_}
 use mathlib.Core.Path.{_≡_, refl, sym, _∙_}
 use mathlib.Core.Bool.{Bool, true, false, not}
 use mathlib.Core.List.{List, [], _∷_}
@@ -15,9 +15,10 @@ use Rattle.dtml.specs.declared.Recovery.{Recovery}
 use Rattle.dtml.specs.declared.Recovery.the-variants.{Idle, C1, C2, C3, C4, C5, C6}
 use Rattle.dtml.specs.Table.{Reply, says}
 use Rattle.dtml.specs.Store.{Memory}
-use Rattle.dtml.specs.Lines.{healed, heal, flushOf, withMarks, choose, anyMark, recoveryLine}
+use Rattle.dtml.specs.Lines.{healed, heal, withMarks, choose, anyMark, recoveryLine}
 use Rattle.dtml.specs.Checks.{anyOf, unfitRows, phasePast, unfitRecovery, unfitTx, unfitBeside, unfitMemory, unfitOne, notIdle}
 use Rattle.dtml.specs.Calls.{oneMore, upTo}
+use Rattle.dtml.proofs.Flush.{flush-length}
 
 -- ---- a test over several clauses
 
@@ -172,12 +173,12 @@ after-c5 m w v f =
     changed (unmarkOf (m .marks) w) (m .glb) C1 f (unmark-in (m .marks) (length (m .vol)) w (f .marks-in)) (f .glb-low) refl
 
 pub keeps : (m : Memory) (r : Recovery) → unfitMemory m r ≡ false → unfitMemory (recoveryLine m r .mem) (recoveryLine m r .rec) ≡ false
-unfolding recoveryLine flushOf
+unfolding recoveryLine
 keeps m Idle h = h
 keeps m C1 h = after-c1 m (eqb (countOf (m .marks)) 0) refl (memory-fits m C1 h)
 keeps m C2 h = after-c2 m (memory-fits m C2 h)
 keeps m (C3 w v) h = let f = memory-fits m (C3 w v) h in rw length-set (moved (C4 w v) f (f .recovery-in))
-keeps m (C4 w v) h = let f = memory-fits m (C4 w v) h in rw length-set (moved (C5 w v) f (f .recovery-in))
+keeps m (C4 w v) h = let f = memory-fits m (C4 w v) h in rw (flush-length (m .vol) (m .pers) w) (moved (C5 w v) f (f .recovery-in))
 keeps m (C5 w v) h = after-c5 m w v (memory-fits m (C5 w v) h)
 keeps m C6 h = let f = memory-fits m C6 h in changed (m .marks) 0 Idle f (f .marks-in) zero-le refl
 
@@ -197,6 +198,20 @@ line-number m (C3 w v) h = refl
 line-number m (C4 w v) h = refl
 line-number m (C5 w v) h = refl
 line-number m C6 h = refl
+
+-- what one line keeps, lines up to an allowance keep
+pub up-to-keeps : (P : Reply → Memory → Recovery → Type 0)
+    → ((a : Reply) (m : Memory) (r : Recovery) → P a m r → P (says (recoveryLine m r .reply .number) (a .value + 1)) (recoveryLine m r .mem) (recoveryLine m r .rec))
+    → (b : ℕ) (a : Reply) (m : Memory) (r : Recovery) → P a m r → P (upTo b a m r .reply) (upTo b a m r .mem) (upTo b a m r .rec)
+unfolding upTo
+up-to-keeps P step zero a m r h = h
+up-to-keeps P step (suc b) a m Idle h = h
+up-to-keeps P step (suc b) a m C1 h = up-to-keeps P step b _ _ _ (step a m C1 h)
+up-to-keeps P step (suc b) a m C2 h = up-to-keeps P step b _ _ _ (step a m C2 h)
+up-to-keeps P step (suc b) a m (C3 w v) h = up-to-keeps P step b _ _ _ (step a m (C3 w v) h)
+up-to-keeps P step (suc b) a m (C4 w v) h = up-to-keeps P step b _ _ _ (step a m (C4 w v) h)
+up-to-keeps P step (suc b) a m (C5 w v) h = up-to-keeps P step b _ _ _ (step a m (C5 w v) h)
+up-to-keeps P step (suc b) a m C6 h = up-to-keeps P step b _ _ _ (step a m C6 h)
 
 pub up-to-more : (b : ℕ) (a : Reply) (m : Memory) (r : Recovery) → notIdle r ≡ true → upTo (suc b) a m r ≡ oneMore (upTo b) a (recoveryLine m r)
 unfolding upTo

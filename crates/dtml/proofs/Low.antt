@@ -24,6 +24,7 @@ use Rattle.dtml.specs.Calls.{ask, upTo, system, act, call, refused}
 use Rattle.dtml.specs.History.{last, taleAt, World, tell, dawn, runs}
 use Rattle.dtml.proofs.Invariant.{Free, Owner, Ender}
 use Rattle.dtml.proofs.Words.{same-or-not, true-not-false, pick-case}
+use Rattle.dtml.proofs.Fit.{up-to-keeps}
 use Rattle.dtml.proofs.Roles.{Role, free, owner, ender, role}
 use Rattle.dtml.proofs.Asks.{new-fresh, waiting-ready}
 use Rattle.dtml.proofs.Worlds.{Passes, InvW, acted, tell-keeps}
@@ -142,15 +143,7 @@ low-recovery m (C5 w v) = le-refl _
 low-recovery m C6 = omega arith
 
 low-upTo : (b : ℕ) (a : Reply) (m : Memory) (r : Recovery) → upTo b a m r .mem .glb ≤ m .glb
-unfolding upTo
-low-upTo zero a m r = le-refl _
-low-upTo (suc b) a m Idle = le-refl _
-low-upTo (suc b) a m C1 = le-trans (low-upTo b _ _ _) (low-recovery m C1)
-low-upTo (suc b) a m C2 = le-trans (low-upTo b _ _ _) (low-recovery m C2)
-low-upTo (suc b) a m (C3 w v) = le-trans (low-upTo b _ _ _) (low-recovery m (C3 w v))
-low-upTo (suc b) a m (C4 w v) = le-trans (low-upTo b _ _ _) (low-recovery m (C4 w v))
-low-upTo (suc b) a m (C5 w v) = le-trans (low-upTo b _ _ _) (low-recovery m (C5 w v))
-low-upTo (suc b) a m C6 = le-trans (low-upTo b _ _ _) (low-recovery m C6)
+low-upTo b a m r = up-to-keeps (λ _ k _. k .glb ≤ m .glb) (λ _ k q h. le-trans (low-recovery k q) h) b a m r (le-refl _)
 
 lower : (m m′ : Memory) (ts : List Tx) → m′ .glb ≤ m .glb → Low m ts → Low m′ ts
 lower m m′ ts h low = record { count-low = let z = low .count-low in omega arith; locs-low = low .locs-low }

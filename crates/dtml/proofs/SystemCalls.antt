@@ -27,6 +27,7 @@ use Rattle.dtml.specs.History.{Tale, taleAt, closes, blank}
 use Rattle.dtml.proofs.Invariant.{Free, Over, Owner, Clean, Dirty, Lock, Chosen, Heals, Still, Each, Mode, quiet, writing, sealed, healing, Shape, Inv}
 use Rattle.dtml.specs.Demands.{overlaid}
 use Rattle.dtml.proofs.Words.{same-or-not, true-not-false, pick-case}
+use Rattle.dtml.proofs.Fit.{up-to-keeps}
 use Rattle.dtml.proofs.Flush.{flush-copies, flush-each, flush-length, flush-overlaid, flush-shared}
 
 -- ---- facts that a mode states, after a flush
@@ -272,12 +273,4 @@ module _ (n : ℕ) (ts : List Tx) (ks : List Tale) (l : List ℕ) where
     recovery-inv C6 inv = healed-all inv
 
   pub upTo-inv : (b : ℕ) (a : Reply) (m : Memory) (r : Recovery) → Inv n m r ts ks l → Inv n (upTo b a m r .mem) (upTo b a m r .rec) ts ks l
-  unfolding upTo
-  upTo-inv zero a m r inv = inv
-  upTo-inv (suc b) a m Idle inv = inv
-  upTo-inv (suc b) a m C1 inv = upTo-inv b _ _ _ (recovery-inv m C1 inv)
-  upTo-inv (suc b) a m C2 inv = upTo-inv b _ _ _ (recovery-inv m C2 inv)
-  upTo-inv (suc b) a m (C3 w v) inv = upTo-inv b _ _ _ (recovery-inv m (C3 w v) inv)
-  upTo-inv (suc b) a m (C4 w v) inv = upTo-inv b _ _ _ (recovery-inv m (C4 w v) inv)
-  upTo-inv (suc b) a m (C5 w v) inv = upTo-inv b _ _ _ (recovery-inv m (C5 w v) inv)
-  upTo-inv (suc b) a m C6 inv = upTo-inv b _ _ _ (recovery-inv m C6 inv)
+  upTo-inv b a m r inv = up-to-keeps (λ _ m r. Inv n m r ts ks l) (λ _ m r h. recovery-inv m r h) b a m r inv

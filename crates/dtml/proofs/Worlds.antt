@@ -23,6 +23,7 @@ use Rattle.dtml.specs.Calls.{ask, upTo, system, Outcome, refused, act, c
 use Rattle.dtml.specs.History.{Tale, Past, last, taleAt, blank, note, noted, World, standsAt, tell, dawn, runs}
 use Rattle.dtml.proofs.Invariant.{Inv, quiet, Free, Over}
 use Rattle.dtml.proofs.Words.{true-not-false, pick-case, none-marked}
+use Rattle.dtml.proofs.Fit.{up-to-keeps}
 use Rattle.dtml.proofs.Roles.{Role, free, owner, ender, role}
 use Rattle.dtml.proofs.FreeLines.{AfterLine, free-line}
 use Rattle.dtml.proofs.OwnerLines.{owner-line, ender-line}
@@ -122,15 +123,7 @@ recovery-small m (C5 w v) = refl
 recovery-small m C6 = refl
 
 upTo-small : (b : ℕ) (a : Reply) (m : Memory) (r : Recovery) → Small a → Small (upTo b a m r .reply)
-unfolding upTo
-upTo-small zero a m r h = h
-upTo-small (suc b) a m Idle h = h
-upTo-small (suc b) a m C1 h = upTo-small b _ _ _ (recovery-small m C1)
-upTo-small (suc b) a m C2 h = upTo-small b _ _ _ (recovery-small m C2)
-upTo-small (suc b) a m (C3 w v) h = upTo-small b _ _ _ (recovery-small m (C3 w v))
-upTo-small (suc b) a m (C4 w v) h = upTo-small b _ _ _ (recovery-small m (C4 w v))
-upTo-small (suc b) a m (C5 w v) h = upTo-small b _ _ _ (recovery-small m (C5 w v))
-upTo-small (suc b) a m C6 h = upTo-small b _ _ _ (recovery-small m C6)
+upTo-small b a m r h = up-to-keeps (λ a _ _. Small a) (λ _ m r _. recovery-small m r) b a m r h
 
 pub act-small : (s : Store) (c : Call) → Small (act s c .reply)
 unfolding act ask system
