@@ -1,24 +1,20 @@
 -- An invocation moves the record of a fresh or a ready transaction to its first line, and its tale says what was asked.
-use Prim.Native.Nat.{ℕ, _≤_, _<_}
-use native.Mathlib.Omega.{arith}
-use borrow.Author.Tests.{leb-false}
-use mathlib.Core.Path.{_≡_, refl, sym, subst, _∙_}
-use mathlib.Core.Bool.{Bool, true, false, not}
+use Prim.Native.Nat.{ℕ, _<_}
+use mathlib.Core.Path.{_≡_, refl, sym, subst}
+use mathlib.Core.Bool.{true, false}
 use mathlib.Core.List.{List}
-use lib.ListN.{length, set}
-use lib.Dec.{leb}
-use Rattle.marks.specs.Marks.{countOf}
+use lib.ListN.{set}
 use Rattle.dtml.specs.declared.Tx.{Tx}
 use Rattle.dtml.specs.declared.Phase.{Phase}
 use Rattle.dtml.specs.declared.Phase.the-variants.{Fresh, Ready, Committed, Aborted, B1, B2, R1, R2, W1, W2, W3, W4, W5, W6, W7, E1, E2, E3}
 use Rattle.dtml.specs.declared.Recovery.{Recovery}
 use Rattle.dtml.specs.Store.{Memory, recordAt, tx}
-use Rattle.dtml.specs.Lines.{even, stage}
-use Rattle.dtml.specs.Checks.{Ask, read, write, commit, notIdle, isNew, isWaiting}
+use Rattle.dtml.specs.Lines.{stage}
+use Rattle.dtml.specs.Checks.{Ask, notIdle, isNew, isWaiting}
 use Rattle.dtml.specs.History.{Tale, Past, last, taleAt, begins, asks}
-use Rattle.dtml.proofs.Invariant.{Free, Plain, Current, Lock, Owner, Clean, Ender, EachBut, Inv}
+use Rattle.dtml.proofs.Invariant.{Free, Plain, Current, Owner, Clean, Ender, Inv}
 use Rattle.dtml.proofs.Words.{true-not-false}
-use Rattle.dtml.proofs.Roles.{FreeRole, Role, free, owner, ender, role}
+use Rattle.dtml.proofs.Roles.{Role, free, owner, ender, role}
 use Rattle.dtml.proofs.FreeLines.{moved}
 use Rattle.dtml.proofs.OwnerLines.{stays}
 

@@ -1,30 +1,28 @@
 -- Recovery's cost, by the lines left: five for each word in the log and two, less what is done at the word in hand. Every call but a crash keeps the sum
 -- of lines carried out and lines left; a crash adds at most four, and five for each word of the writer that it cuts.
 use Prim.Native.Nat.{ℕ, zero, suc, _+_, _-_, _*_, _≤_, _<_, min}
-use native.Mathlib.Nat.{le-refl, add-assoc}
 use native.Mathlib.Numerals.{add-one}
 use native.Mathlib.Omega.{arith}
-use borrow.Author.Tests.{leb-true, leb-false, le-leb, lt-leb, not-true, not-false, eqb-true}
+use borrow.Author.Tests.{le-leb, lt-leb, not-false, eqb-true}
 use mathlib.Core.Path.{_≡_, refl, sym, ap, ap₂, subst, _∙_}
 use mathlib.Core.Bool.{Bool, true, false, not}
-use mathlib.Core.Logic.{_⊎_, inl, inr}
 use mathlib.Core.List.{List, [], _∷_}
 use lib.ListN.{length, replicate}
-use lib.Dec.{leb, eqb, leb·suc-suc}
-use Rattle.marks.specs.Marks.{pick, isMarked, countOf, unmarkOf}
+use lib.Dec.{leb, leb·suc-suc}
+use Rattle.marks.specs.Marks.{pick, isMarked, countOf}
 use Rattle.marks.proofs.Laws.{laws}
 use Rattle.dtml.specs.declared.Tx.{Tx}
 use Rattle.dtml.specs.declared.Recovery.{Recovery}
 use Rattle.dtml.specs.declared.Recovery.the-variants.{Idle, C1, C2, C3, C4, C5, C6}
 use Rattle.dtml.specs.Table.{Reply, says}
-use Rattle.dtml.specs.Store.{Memory, Store, store}
-use Rattle.dtml.specs.Lines.{Healed, recoveryLine, anyMark, storeWord, withMarks}
-use Rattle.dtml.specs.Checks.{checks, unfit, notIdle, Ask, begin, read, write, commit, step, Sys, flush, crash, recover, recoverUpTo, Call, on, sys}
-use Rattle.dtml.specs.Calls.{ask, upTo, oneMore, system, act, call, refused}
+use Rattle.dtml.specs.Store.{Memory, store}
+use Rattle.dtml.specs.Lines.{Healed, recoveryLine, anyMark}
+use Rattle.dtml.specs.Checks.{checks, unfit, notIdle, begin, read, write, commit, step, flush, crash, recover, recoverUpTo, Call, on, sys}
+use Rattle.dtml.specs.Calls.{upTo, oneMore, system, act, call}
 use Rattle.dtml.specs.History.{Tale, taleAt, last, liveWords, noted, World, tell, runs}
 use Rattle.dtml.specs.Demands.{NoCrash}
-use Rattle.dtml.proofs.Invariant.{Heals, Still, Lock, Each, Mode, quiet, writing, sealed, healing, Inv}
-use Rattle.dtml.proofs.Words.{true-or-false, true-not-false, pick-case}
+use Rattle.dtml.proofs.Invariant.{Heals, Mode, quiet, writing, sealed, healing, Inv}
+use Rattle.dtml.proofs.Words.{true-not-false, pick-case}
 use Rattle.dtml.proofs.Fit.{line-number, up-to-more, up-to-idle}
 use Rattle.dtml.proofs.SystemCalls.{heals, recovery-inv}
 use Rattle.dtml.proofs.Low.{LowW, tell-low}

@@ -1,13 +1,13 @@
 -- The demands, from the invariant that every schedule keeps.
-use Prim.Native.Nat.{ℕ, zero, suc, _+_, _-_, _*_, _≤_, _<_, min}
+use Prim.Native.Nat.{ℕ, _+_, _*_, _<_, min}
 use native.Mathlib.Nat.{zero-add}
 use native.Mathlib.Omega.{arith}
 use borrow.Author.Tests.{leb-true, leb-false, eqb-true, not-false}
 use mathlib.Core.Path.{_≡_, refl, sym, ap, subst, _∙_}
 use mathlib.Core.Bool.{Bool, true, false, not}
-use mathlib.Core.Logic.{_⊎_, inl, inr, _↔_}
+use mathlib.Core.Logic.{_⊎_, inl, inr}
 use mathlib.Core.List.{List, [], _∷_}
-use lib.ListN.{length, getD, replicate}
+use lib.ListN.{replicate}
 use lib.Seq.{ext-getD}
 use lib.Dec.{leb, eqb}
 use Rattle.marks.specs.Marks.{pick, isMarked, countOf}
@@ -15,18 +15,17 @@ use Rattle.dtml.specs.declared.Phase.{Phase}
 use Rattle.dtml.specs.declared.Phase.the-variants.{Fresh, Ready, Committed, Aborted, B1, B2, R1, R2, W1, W2, W3, W4, W5, W6, W7, E1, E2, E3}
 use Rattle.dtml.specs.declared.Tx.{Tx}
 use Rattle.dtml.specs.declared.Recovery.{Recovery}
-use Rattle.dtml.specs.Table.{Reply, says}
-use Rattle.dtml.specs.Store.{Memory, Store, recordAt, fresh}
+use Rattle.dtml.specs.Table.{says}
+use Rattle.dtml.specs.Store.{Memory, recordAt, fresh}
 use Rattle.dtml.specs.Lines.{Did, Healed, lineAt, recoveryLine, even, stage, isLive}
-use Rattle.dtml.specs.Checks.{checks, unfit, notIdle, Ask, begin, read, write, commit, step, Sys, flush, crash, recover, recoverUpTo, Call, on, sys}
+use Rattle.dtml.specs.Checks.{checks, unfit, notIdle, begin, read, write, commit, step, flush, crash, recover, recoverUpTo, Call, on, sys}
 use Rattle.dtml.specs.Calls.{ask, upTo, system, act, call, refused}
-use Rattle.dtml.specs.History.{over, sees, Tale, Past, last, lastOf, laterAfter, taleAt, isE2, noted, World, tell, dawn, runs}
-use Rattle.dtml.specs.Demands.{Size, after, number, value, CommittedMemories, Durable, overlaid, BothSides, WholeWhenHealed, WholeWhenIdle, NeverIdle, CutBeforeE2, CutAfterE2, Reads, RecoveryCost, NoCrash, crashed, logged, ExactCost, linesLeft, Allowance, NothingUnfit}
-use Rattle.dtml.proofs.Invariant.{Agree, Free, Owner, Ender, Mode, quiet, writing, sealed, healing}
+use Rattle.dtml.specs.History.{over, sees, Tale, last, laterAfter, taleAt, isE2, noted, World, tell, dawn, runs}
+use Rattle.dtml.specs.Demands.{Size, after, number, value, CommittedMemories, Durable, BothSides, WholeWhenHealed, WholeWhenIdle, NeverIdle, CutBeforeE2, CutAfterE2, Reads, RecoveryCost, NoCrash, crashed, logged, ExactCost, linesLeft, Allowance, NothingUnfit}
+use Rattle.dtml.proofs.Invariant.{Free, Owner, Ender, Mode, quiet, writing, sealed, healing}
 use Rattle.dtml.proofs.Words.{true-or-false, true-not-false, pick-case, none-marked, sees-agree}
 use Rattle.dtml.proofs.Roles.{Role, free, owner, ender, role}
-use Rattle.dtml.proofs.FreeLines.{unlogged-vol, unlogged-pers}
-use Rattle.dtml.proofs.Worlds.{Passes, call-cases, line-small, acted, tell-act, tell-cases, tell-keeps, tell-inv, InvW, dawn-inv}
+use Rattle.dtml.proofs.Worlds.{Passes, call-cases, line-small, acted, tell-act, tell-keeps, tell-inv, InvW, dawn-inv}
 use Rattle.dtml.proofs.Low.{LowW, tell-low, glb-low}
 use Rattle.dtml.proofs.Fit.{line-number}
 use Rattle.dtml.proofs.Fitness.{never-unfit, fine, fine-after, not-nine}

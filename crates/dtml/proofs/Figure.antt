@@ -4,7 +4,6 @@ use borrow.Author.Tests.{eqb-true, eqb-false, eq-eqb, ne-eqb, not-true, not-fals
 use mathlib.Core.Path.{_≡_, refl, sym, ap, _∙_}
 use mathlib.Core.Bool.{Bool, true, false, not}
 use mathlib.Core.Logic.{_⊎_, inl, inr}
-use lib.ListN.{getD, set}
 use lib.Dec.{eqb, leb}
 use Rattle.marks.specs.Marks.{pick, isMarked, countOf}
 use Rattle.dtml.specs.declared.Phase.{Phase}
@@ -12,7 +11,7 @@ use Rattle.dtml.specs.declared.Phase.the-variants.{Fresh, Ready, Committ
 use Rattle.dtml.specs.declared.Recovery.{Recovery}
 use Rattle.dtml.specs.declared.Recovery.the-variants.{Idle, C1, C2, C3, C4, C5, C6}
 use Rattle.dtml.specs.Table.{says}
-use Rattle.dtml.specs.Store.{Memory, Store, memory, recordAt, tx}
+use Rattle.dtml.specs.Store.{Memory, memory, recordAt, tx}
 use Rattle.dtml.specs.Lines.{Did, did, Healed, lineAt, recoveryLine, even, stage, anyMark, flushOf}
 use Rattle.dtml.specs.Checks.{checks, isAtLine, notIdle, on, step, sys, recover}
 use Rattle.dtml.specs.Calls.{ask, system, act, call, refused, placed, settled}

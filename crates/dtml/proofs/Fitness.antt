@@ -1,14 +1,14 @@
 -- From fresh nothing is unfit: the rows keep their lengths, a mark, a phase and recovery name words that are there, and the count stays low.
-use Prim.Native.Nat.{ℕ, zero, suc, _+_, _≤_, _<_}
+use Prim.Native.Nat.{ℕ, suc, _≤_, _<_}
 use native.Mathlib.Omega.{arith}
 use borrow.Author.Tests.{leb-true, leb-false, lt-leb, ne-eqb, eq-eqb}
-use mathlib.Core.Path.{_≡_, refl, sym, ap, subst, _∙_}
-use mathlib.Core.Bool.{Bool, true, false, not}
+use mathlib.Core.Path.{_≡_, refl, sym, ap, _∙_}
+use mathlib.Core.Bool.{true, false}
 use mathlib.Core.Logic.{_⊎_, inl, inr}
 use mathlib.Core.List.{List, [], _∷_}
 use lib.ListN.{length, drop}
-use lib.Dec.{leb, eqb}
-use Rattle.marks.specs.Marks.{pick, countOf}
+use lib.Dec.{leb}
+use Rattle.marks.specs.Marks.{countOf}
 use Rattle.marks.proofs.Laws.{laws}
 use Rattle.dtml.specs.declared.Tx.{Tx}
 use Rattle.dtml.specs.declared.Phase.{Phase}
@@ -16,7 +16,7 @@ use Rattle.dtml.specs.declared.Phase.the-variants.{Fresh, Ready, Committ
 use Rattle.dtml.specs.declared.Recovery.{Recovery}
 use Rattle.dtml.specs.declared.Recovery.the-variants.{Idle, C1, C2, C3, C4, C5, C6}
 use Rattle.dtml.specs.Store.{Memory, Store, recordAt}
-use Rattle.dtml.specs.Checks.{Check, first, checks, unfit, unfitTx, unfitTxs, unfitMemory, unfitRecovery, phasePast, notIdle, Ask, begin, read, write, commit, step, Sys, flush, crash, recover, recoverUpTo, Call, on, sys}
+use Rattle.dtml.specs.Checks.{Check, first, checks, unfit, unfitTx, unfitTxs, unfitMemory, unfitRecovery, phasePast, notIdle, begin, read, write, commit, step, flush, crash, recover, recoverUpTo, Call, on, sys}
 use Rattle.dtml.specs.Calls.{act, call, refused}
 use Rattle.dtml.specs.History.{Tale, taleAt, last, World, runs, tell, dawn}
 use Rattle.dtml.proofs.Invariant.{Free, Owner, Ender, Heals, Mode, quiet, writing, sealed, healing}

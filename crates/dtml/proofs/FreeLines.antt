@@ -5,23 +5,22 @@ use native.Mathlib.Nat.{le-refl}
 use native.Mathlib.Omega.{arith}
 use borrow.Author.Tests.{eqb-true}
 use mathlib.Core.Path.{_≡_, refl, sym, ap, _∙_}
-use mathlib.Core.Bool.{Bool, true, false}
-use mathlib.Core.List.{List, []}
-use lib.ListN.{length, getD, set, length-set}
+use mathlib.Core.Bool.{true, false}
+use mathlib.Core.List.{List}
+use lib.ListN.{length, set, length-set}
 use lib.Dec.{eqb}
-use Rattle.marks.specs.Marks.{pick, isMarked, countOf}
+use Rattle.marks.specs.Marks.{isMarked, countOf}
 use Rattle.dtml.specs.declared.Tx.{Tx}
 use Rattle.dtml.specs.declared.Phase.{Phase}
 use Rattle.dtml.specs.declared.Phase.the-variants.{Fresh, Ready, Committed, Aborted, B1, B2, R1, R2, W1, W2, W3, W4, W5, W6, W7, E1, E2, E3}
 use Rattle.dtml.specs.declared.Recovery.{Recovery}
-use Rattle.dtml.specs.Table.{says}
 use Rattle.dtml.specs.Store.{Memory, recordAt, tx}
 use Rattle.dtml.specs.Lines.{Did, lineAt, even, stage, withGlb, word}
 use Rattle.dtml.specs.Checks.{notIdle, isAtLine, write}
-use Rattle.dtml.specs.History.{Tale, Past, told, last, lastOf, laterAfter, taleAt, sees, starts, closes, locks, isE2, over}
+use Rattle.dtml.specs.History.{Tale, Past, told, last, lastOf, laterAfter, taleAt, sees, starts, closes, locks}
 use Rattle.dtml.proofs.Invariant.{Agree, Free, Plain, Lock, Owner, Each, EachBut, Mode, writing, Shape, Inv}
 use Rattle.dtml.proofs.Words.{true-not-false, pick-case, even-true, is-odd, odd-other, none-marked}
-use Rattle.dtml.proofs.Roles.{FreeRole, set-here, set-own}
+use Rattle.dtml.proofs.Roles.{set-here, set-own}
 
 -- a free transaction stays free while the count rises, if the new count is not its loc, whatever becomes of the committed memory
 pub free-move : (n g g′ : ℕ) (l l′ : List ℕ) (loc : ℕ) (p : Phase) (k : Tale) → g ≤ g′ → (even loc ≡ true → loc ≤ g → loc ≡ g′ → ⊥)

@@ -1,8 +1,8 @@
 -- What holds at every moment of every schedule from a fresh store, as predicates over the store's parts, so that what a line does not touch carries over.
 -- The store is quiet, one transaction writes, one is sealed (past its E2, before its E3), or recovery heals it.
-use Prim.Native.Nat.{ℕ, suc, _+_, _≤_, _<_}
+use Prim.Native.Nat.{ℕ, _+_, _≤_, _<_}
 use mathlib.Core.Path.{_≡_}
-use mathlib.Core.Bool.{Bool, true, false}
+use mathlib.Core.Bool.{true, false}
 use mathlib.Core.List.{List, []}
 use lib.ListN.{length, getD}
 use Rattle.marks.specs.Marks.{isMarked, countOf}
@@ -13,7 +13,7 @@ use Rattle.dtml.specs.declared.Recovery.{Recovery}
 use Rattle.dtml.specs.declared.Recovery.the-variants.{Idle, C1, C2, C3, C4, C5, C6}
 use Rattle.dtml.specs.Store.{Memory, recordAt}
 use Rattle.dtml.specs.Lines.{even, stage, isLive}
-use Rattle.dtml.specs.Checks.{Ask, read, write, notIdle}
+use Rattle.dtml.specs.Checks.{read, write, notIdle}
 use Rattle.dtml.specs.History.{over, sees, Tale, taleAt}
 use Rattle.dtml.specs.Demands.{overlaid}
 

@@ -5,18 +5,17 @@ use borrow.Author.Tests.{le-leb, lt-leb, not-false, eqb-true}
 use mathlib.Core.Path.{_≡_, refl, sym, ap, _∙_}
 use mathlib.Core.Bool.{Bool, true, false, not}
 use mathlib.Core.List.{List, [], _∷_}
-use lib.ListN.{length, getD, set}
+use lib.ListN.{length, getD}
 use lib.Seq.{set-getD}
-use lib.Dec.{leb, eqb}
+use lib.Dec.{eqb}
 use Rattle.marks.specs.Marks.{pick}
 use Rattle.dtml.specs.declared.Tx.{Tx}
 use Rattle.dtml.specs.declared.Phase.the-variants.{Fresh}
-use Rattle.dtml.specs.declared.Recovery.{Recovery}
 use Rattle.dtml.specs.Table.{says}
-use Rattle.dtml.specs.Store.{Memory, Store, store, recordAt, tx, size}
-use Rattle.dtml.specs.Lines.{Did, did, Healed, healed}
-use Rattle.dtml.specs.Checks.{Check, first, anyOf, unfit, unfitMemory, unfitTx, unfitTxs, unfitOne, checks, askChecks, sysChecks, Ask, Sys, flush, crash, recover, recoverUpTo, on, sys}
-use Rattle.dtml.specs.Calls.{ask, system, systemTxs, act, call, Outcome, outcome, refused, placed, settled, callOne, callSystem}
+use Rattle.dtml.specs.Store.{Store, store, recordAt, tx, size}
+use Rattle.dtml.specs.Lines.{did, healed}
+use Rattle.dtml.specs.Checks.{Check, first, anyOf, unfit, unfitMemory, unfitTx, unfitTxs, askChecks, sysChecks, Ask, Sys, flush, crash, recover, recoverUpTo, on, sys}
+use Rattle.dtml.specs.Calls.{ask, system, systemTxs, act, call, outcome, refused, placed, settled, callOne, callSystem}
 use Rattle.dtml.proofs.Fit.{none, last, fit-one}
 
 -- what is done with the outcome of a call, done with each of its ways

@@ -1,15 +1,15 @@
 -- The count stays low: each transaction can raise it twice, at its W2 and at its E3, so the count and what the 64 records can still add stay at 128 or below.
-use Prim.Native.Nat.{ℕ, zero, suc, _+_, _*_, _≤_, _<_}
+use Prim.Native.Nat.{ℕ, zero, suc, _+_, _≤_, _<_}
 use native.Mathlib.Nat.{le-refl, le-trans}
 use native.Mathlib.Omega.{arith}
 use borrow.Author.Tests.{leb-false, not-false}
-use mathlib.Core.Path.{_≡_, refl, sym, ap, subst, _∙_}
-use mathlib.Core.Bool.{Bool, true, false, not}
+use mathlib.Core.Path.{_≡_, refl, subst}
+use mathlib.Core.Bool.{Bool, true, false}
 use mathlib.Core.Logic.{_⊎_, inl, inr}
-use mathlib.Core.List.{List, [], _∷_, map}
-use lib.ListN.{length, getD, set, replicate, List·getD-map, getD-replicate}
+use mathlib.Core.List.{List, [], _∷_}
+use lib.ListN.{length, set, List·getD-map, getD-replicate}
 use lib.Seq.{getD-set-same, getD-set-other}
-use lib.Dec.{leb, eqb}
+use lib.Dec.{eqb}
 use Rattle.marks.specs.Marks.{pick, isMarked}
 use Rattle.dtml.specs.declared.Tx.{Tx}
 use Rattle.dtml.specs.declared.Phase.{Phase}
@@ -17,13 +17,13 @@ use Rattle.dtml.specs.declared.Phase.the-variants.{Fresh, Ready, Committ
 use Rattle.dtml.specs.declared.Recovery.{Recovery}
 use Rattle.dtml.specs.declared.Recovery.the-variants.{Idle, C1, C2, C3, C4, C5, C6}
 use Rattle.dtml.specs.Table.{Reply, says}
-use Rattle.dtml.specs.Store.{Memory, Store, recordAt, tx, fresh}
-use Rattle.dtml.specs.Lines.{Did, Healed, lineAt, recoveryLine, even, stage, isLive, anyMark, crashPhase, crashTx, crashTxs}
-use Rattle.dtml.specs.Checks.{checks, notIdle, Ask, begin, read, write, commit, step, Sys, flush, crash, recover, recoverUpTo, Call, on, sys}
-use Rattle.dtml.specs.Calls.{ask, upTo, system, act, call, refused}
-use Rattle.dtml.specs.History.{last, taleAt, World, tell, dawn, runs}
+use Rattle.dtml.specs.Store.{Memory, recordAt, tx, fresh}
+use Rattle.dtml.specs.Lines.{Did, Healed, lineAt, recoveryLine, even, stage, isLive, anyMark, crashTx, crashTxs}
+use Rattle.dtml.specs.Checks.{checks, begin, read, write, commit, step, flush, crash, recover, recoverUpTo, Call, on, sys}
+use Rattle.dtml.specs.Calls.{ask, upTo, system, act}
+use Rattle.dtml.specs.History.{last, taleAt, World, tell, dawn}
 use Rattle.dtml.proofs.Invariant.{Free, Owner, Ender}
-use Rattle.dtml.proofs.Words.{same-or-not, true-not-false, pick-case}
+use Rattle.dtml.proofs.Words.{same-or-not, pick-case}
 use Rattle.dtml.proofs.Fit.{up-to-keeps}
 use Rattle.dtml.proofs.Roles.{Role, free, owner, ender, role}
 use Rattle.dtml.proofs.Asks.{new-fresh, waiting-ready}

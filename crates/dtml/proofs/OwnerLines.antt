@@ -1,30 +1,30 @@
 -- A line of the transaction that writes, or is sealed. W5 saves the committed word before W6 overwrites it, W7 flushes it, so at E2 both sides hold what
 -- the transaction sees, and clearing the log makes that the committed memory; E3 lets the others in with a count above every loc.
-use Prim.Native.Nat.{ℕ, _+_, _*_, _%_, _≤_, _<_}
+use Prim.Native.Nat.{ℕ, _+_, _%_, _<_}
 use native.Mathlib.Nat.{le-refl}
 use native.Mathlib.Omega.{arith}
 use borrow.Author.Tests.{eqb-false}
-use mathlib.Core.Path.{_≡_, refl, sym, ap, _∙_}
-use mathlib.Core.Bool.{Bool, true, false}
+use mathlib.Core.Path.{_≡_, refl, sym, _∙_}
+use mathlib.Core.Bool.{true, false}
 use mathlib.Core.Logic.{_⊎_, inl, inr, ⊎-elim}
-use mathlib.Core.List.{List, []}
+use mathlib.Core.List.{List}
 use lib.ListN.{length, getD, set, length-set}
 use lib.Seq.{getD-set-same, getD-set-other}
 use lib.Dec.{eqb}
-use Rattle.marks.specs.Marks.{pick, isMarked, countOf, markOf, clearOf}
+use Rattle.marks.specs.Marks.{isMarked, countOf, markOf, clearOf}
 use Rattle.marks.specs.Laws.{room}
 use Rattle.marks.proofs.Laws.{laws}
 use Rattle.dtml.specs.declared.Tx.{Tx}
 use Rattle.dtml.specs.declared.Phase.{Phase}
 use Rattle.dtml.specs.declared.Phase.the-variants.{Fresh, Ready, Committed, Aborted, B1, B2, R1, R2, W1, W2, W3, W4, W5, W6, W7, E1, E2, E3}
 use Rattle.dtml.specs.declared.Recovery.{Recovery}
-use Rattle.dtml.specs.Store.{Memory, memory, recordAt, tx}
-use Rattle.dtml.specs.Lines.{Did, lineAt, even, stage, withGlb, withMarks, word, enter, storeWord, flushWord, flushOf}
-use Rattle.dtml.specs.Checks.{notIdle, isAtLine, write}
-use Rattle.dtml.specs.History.{Tale, Past, told, last, lastOf, laterAfter, taleAt, sees, over, asks, closes, enters, writes, askedWrite, wrote-as}
-use Rattle.dtml.proofs.Invariant.{Agree, Free, Over, Lock, Owner, Clean, Dirty, Ender, EachBut, Mode, quiet, writing, sealed, Shape, Inv}
+use Rattle.dtml.specs.Store.{Memory, memory, tx}
+use Rattle.dtml.specs.Lines.{lineAt, even, stage, withGlb, withMarks, word, enter, storeWord, flushWord, flushOf}
+use Rattle.dtml.specs.Checks.{notIdle, isAtLine}
+use Rattle.dtml.specs.History.{Tale, Past, told, last, sees, over, closes, enters, writes}
+use Rattle.dtml.proofs.Invariant.{Free, Lock, Owner, Dirty, Ender, EachBut, Mode, quiet, writing, sealed, Inv}
 use Rattle.dtml.specs.Demands.{overlaid}
-use Rattle.dtml.proofs.Words.{same-or-not, true-not-false, pick-case, even-true, even-false, is-even, odd-other, none-marked, over-length, over-sees, sees-same, sees-other}
+use Rattle.dtml.proofs.Words.{same-or-not, true-not-false, pick-case, even-false, is-even, odd-other, over-length, over-sees, sees-same, sees-other}
 use Rattle.dtml.proofs.Flush.{flush-copies, flush-length, flush-overlaid, flush-shared}
 use Rattle.dtml.proofs.Roles.{set-here, set-own, set-each}
 use Rattle.dtml.proofs.FreeLines.{AfterLine, others-move, reshape, in-txs, in-tales, moved}

@@ -1,11 +1,11 @@
 -- While recovery is idle a transaction is free, or it is the one that writes, or the one that is sealed. Each case says what must be shown of its
 -- record and tale after a line for the store's mode to hold again; the other transactions are looked at only here.
-use Prim.Native.Nat.{ℕ, _≤_, _<_}
-use mathlib.Core.Path.{_≡_, refl, sym, ap, _∙_}
-use mathlib.Core.Bool.{Bool, true, false}
+use Prim.Native.Nat.{ℕ, _<_}
+use mathlib.Core.Path.{_≡_, sym}
+use mathlib.Core.Bool.{true, false}
 use mathlib.Core.List.{List}
 use mathlib.Core.Logic.{_⊎_, inl, inr}
-use lib.ListN.{length, getD, set}
+use lib.ListN.{length, set}
 use lib.Seq.{getD-set-same, getD-set-other}
 use Rattle.marks.specs.Marks.{countOf}
 use Rattle.dtml.specs.declared.Tx.{Tx}

@@ -1,34 +1,33 @@
 -- A flush, a crash and the lines of recovery. An unmarked word is committed on both sides, so a flush and a crash leave what the log overlays;
 -- recovery unmarks a word only after its committed value stands on both sides.
-use Prim.Native.Nat.{ℕ, zero, suc, _+_, _≤_, _<_}
+use Prim.Native.Nat.{ℕ, _≤_, _<_}
 use native.Mathlib.Omega.{arith}
 use native.Mathlib.Decide.{decLt}
 use borrow.Author.Tests.{eqb-true, eqb-false, not-true, not-false}
-use mathlib.Core.Path.{_≡_, refl, sym, ap, subst, _∙_}
-use mathlib.Core.Bool.{Bool, true, false, not}
-use mathlib.Core.Logic.{_⊎_, inl, inr, ⊎-elim}
+use mathlib.Core.Path.{_≡_, refl, sym, ap, _∙_}
+use mathlib.Core.Bool.{true, false, not}
+use mathlib.Core.Logic.{_⊎_, inl, inr}
 use mathlib.Core.List.{List, map}
-use lib.ListN.{length, getD, set, length-set, length-map, List·getD-map}
+use lib.ListN.{length, getD, length-set, length-map, List·getD-map}
 use lib.Seq.{getD-set-same, getD-set-other}
-use lib.Dec.{eqb}
-use Rattle.marks.specs.Marks.{pick, isMarked, countOf, unmarkOf, lowestOf}
+use Rattle.marks.specs.Marks.{isMarked, countOf, unmarkOf, lowestOf}
 use Rattle.marks.proofs.Laws.{laws}
 use Rattle.dtml.specs.declared.Tx.{Tx}
 use Rattle.dtml.specs.declared.Phase.{Phase}
 use Rattle.dtml.specs.declared.Phase.the-variants.{Fresh, Ready, Committed, Aborted, B1, B2, R1, R2, W1, W2, W3, W4, W5, W6, W7, E1, E2, E3}
 use Rattle.dtml.specs.declared.Recovery.{Recovery}
 use Rattle.dtml.specs.declared.Recovery.the-variants.{Idle, C1, C2, C3, C4, C5, C6}
-use Rattle.dtml.specs.Table.{Reply, says}
-use Rattle.dtml.specs.Store.{Memory, memory, recordAt, tx}
-use Rattle.dtml.specs.Lines.{Healed, recoveryLine, even, stage, isLive, withGlb, withMarks, storeWord, flushWord, flushOf, crashMemory, crashPhase, crashTx, crashTxs, anyMark}
+use Rattle.dtml.specs.Table.{Reply}
+use Rattle.dtml.specs.Store.{Memory, recordAt, tx}
+use Rattle.dtml.specs.Lines.{Healed, recoveryLine, stage, isLive, withGlb, withMarks, storeWord, flushWord, crashMemory, crashPhase, crashTx, crashTxs, anyMark}
 use Rattle.dtml.specs.Checks.{notIdle}
 use Rattle.dtml.specs.Calls.{upTo}
 use Rattle.dtml.specs.History.{Tale, taleAt, closes, blank}
-use Rattle.dtml.proofs.Invariant.{Free, Over, Owner, Clean, Dirty, Lock, Chosen, Heals, Still, Each, Mode, quiet, writing, sealed, healing, Shape, Inv}
+use Rattle.dtml.proofs.Invariant.{Free, Owner, Clean, Dirty, Chosen, Heals, Still, Each, Mode, quiet, writing, sealed, healing, Shape, Inv}
 use Rattle.dtml.specs.Demands.{overlaid}
 use Rattle.dtml.proofs.Words.{same-or-not, true-not-false, pick-case}
 use Rattle.dtml.proofs.Fit.{up-to-keeps}
-use Rattle.dtml.proofs.Flush.{flush-copies, flush-each, flush-length, flush-overlaid, flush-shared}
+use Rattle.dtml.proofs.Flush.{flush-copies, flush-length, flush-overlaid, flush-shared}
 
 -- ---- facts that a mode states, after a flush
 

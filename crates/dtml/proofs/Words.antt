@@ -1,5 +1,5 @@
 -- Plain facts: on lists of records and tales after one is set, on what a transaction sees, and on a test of a computed Bool.
-use Prim.Native.Nat.{ℕ, zero, suc, _+_, _*_, _%_, _≤_, _<_}
+use Prim.Native.Nat.{ℕ, _%_, _<_}
 use mathlib.Core.Path.{_≡_, refl, sym, ap, _∙_}
 use mathlib.Core.Bool.{Bool, true, false}
 use mathlib.Core.List.{List, [], _∷_}
@@ -10,7 +10,7 @@ use borrow.Author.Tests.{eqb-true, eqb-false, eq-eqb, ne-eqb}
 use lib.ListN.{length, getD, set, length-set}
 use lib.Seq.{getD-set-same, getD-set-other}
 use lib.Dec.{eqb}
-use Rattle.marks.specs.Marks.{pick, isMarked, countOf, lowestOf}
+use Rattle.marks.specs.Marks.{pick, isMarked, countOf}
 use Rattle.marks.specs.Laws.{room}
 use Rattle.marks.proofs.Laws.{laws}
 use Rattle.dtml.specs.Lines.{even}

@@ -1,12 +1,12 @@
 -- Every call is refused and changes nothing, or is carried out; what is carried out keeps the invariant, and so does every schedule from a fresh store.
-use Prim.Native.Nat.{ℕ, zero, suc, _+_, _≤_, _<_}
+use Prim.Native.Nat.{ℕ, _≤_, _<_}
 use native.Mathlib.Omega.{arith}
 use borrow.Author.Tests.{leb-false, lt-leb, not-false}
 use mathlib.Core.Path.{_≡_, refl, sym, ap, subst, _∙_}
-use mathlib.Core.Bool.{Bool, true, false, not}
+use mathlib.Core.Bool.{Bool, true, false}
 use mathlib.Core.Logic.{_⊎_, inl, inr}
 use mathlib.Core.List.{List, [], _∷_}
-use lib.ListN.{length, getD, set, replicate, length-replicate, getD-replicate}
+use lib.ListN.{length, replicate, length-replicate, getD-replicate}
 use lib.Dec.{leb, eqb}
 use lib.Count.{onesIn}
 use Rattle.marks.specs.Marks.{pick, isMarked, countOf}
@@ -18,10 +18,10 @@ use Rattle.dtml.specs.declared.Recovery.the-variants.{Idle, C1, C2, C3, 
 use Rattle.dtml.specs.Table.{Reply, says}
 use Rattle.dtml.specs.Store.{Memory, Store, recordAt, tx, size, fresh}
 use Rattle.dtml.specs.Lines.{Did, Healed, lineAt, recoveryLine, even, anyMark}
-use Rattle.dtml.specs.Checks.{Check, first, checks, notIdle, Ask, begin, read, write, commit, step, Sys, flush, crash, recover, recoverUpTo, Call, on, sys}
+use Rattle.dtml.specs.Checks.{Check, first, checks, notIdle, begin, read, write, commit, step, flush, crash, recover, recoverUpTo, Call, on, sys}
 use Rattle.dtml.specs.Calls.{ask, upTo, system, Outcome, refused, act, call}
-use Rattle.dtml.specs.History.{Tale, Past, last, taleAt, blank, note, noted, World, standsAt, tell, dawn, runs}
-use Rattle.dtml.proofs.Invariant.{Inv, quiet, Free, Over}
+use Rattle.dtml.specs.History.{Tale, Past, last, taleAt, blank, note, noted, World, standsAt, tell, dawn}
+use Rattle.dtml.proofs.Invariant.{Inv, quiet}
 use Rattle.dtml.proofs.Words.{true-not-false, pick-case, none-marked}
 use Rattle.dtml.proofs.Fit.{up-to-keeps}
 use Rattle.dtml.proofs.Roles.{Role, free, owner, ender, role}

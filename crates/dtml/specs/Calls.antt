@@ -1,10 +1,9 @@
 -- What each call answers and leaves: its checks first, then an invocation, a line, a flush, a crash or recovery lines.
 use Prim.Native.Nat.{ℕ, zero, suc, _+_}
-use mathlib.Core.Bool.{Bool, true, false, not}
+use mathlib.Core.Bool.{not}
 use mathlib.Core.List.{List, [], _∷_}
 use lib.ListN.{length, set}
 use lib.Dec.{eqb}
-use Rattle.marks.specs.Marks.{pick}
 use Rattle.dtml.specs.declared.Tx.{Tx}
 use Rattle.dtml.specs.declared.Phase.the-variants.{B1, R1, W1, E1}
 use Rattle.dtml.specs.declared.Recovery.{Recovery}
@@ -12,7 +11,7 @@ use Rattle.dtml.specs.declared.Recovery.the-variants.{Idle, C1, C2, C3, 
 use Rattle.dtml.specs.Table.{Reply, says}
 use Rattle.dtml.specs.Store.{Memory, Store, store, size, recordAt, fresh}
 use Rattle.dtml.specs.Lines.{Did, did, to, line, Healed, healed, heal, flushWord, recoveryLine, crashMemory, crashTxs}
-use Rattle.dtml.specs.Checks.{unfit, unfitRows, unfitOne, unfitMemory, anyOf, _⇒_, first, Ask, begin, read, write, commit, step, Sys, flush, crash, recover, recoverUpTo, Call, on, sys, askChecks, sysChecks, checks}
+use Rattle.dtml.specs.Checks.{unfitRows, unfitOne, unfitMemory, anyOf, _⇒_, first, Ask, begin, read, write, commit, step, Sys, flush, crash, recover, recoverUpTo, Call, on, sys, askChecks, sysChecks, checks}
 
 -- ---- what is carried out
 

@@ -1,7 +1,7 @@
 -- Demands 2 and 3 of the customer's letter, each as one statement, over every schedule of calls from a fresh store of every size.
 use Prim.Native.Nat.{ℕ, _+_, _-_, _*_, _≤_, _<_, min}
 use mathlib.Core.Path.{_≡_}
-use mathlib.Core.Bool.{Bool, true, false}
+use mathlib.Core.Bool.{true, false}
 use mathlib.Core.Logic.{_⊎_, _↔_}
 use mathlib.Core.List.{List, [], _∷_}
 use lib.ListN.{length, getD, replicate}
@@ -11,10 +11,10 @@ use Rattle.dtml.specs.declared.Phase.the-variants.{E2, E3}
 use Rattle.dtml.specs.Table.{says}
 use Rattle.dtml.specs.Store.{Memory, Store, recordAt}
 use Rattle.dtml.specs.Lines.{Did, Healed}
-use Rattle.dtml.specs.Checks.{Ask, read, step, Sys, crash, recover, recoverUpTo, Call, on, sys, notIdle}
+use Rattle.dtml.specs.Checks.{read, step, crash, recover, recoverUpTo, Call, on, sys, notIdle}
 use Rattle.dtml.specs.Calls.{call, refused, placed, settled}
 use Rattle.dtml.specs.Figure1.{Line, RecoveryLine}
-use Rattle.dtml.specs.History.{over, sees, Past, last, taleAt, World, tell, dawn, runs}
+use Rattle.dtml.specs.History.{over, sees, last, taleAt, World, tell, dawn, runs}
 
 -- a schedule from a fresh store of n words, n from 1 to 256, and the world after it
 abbrev pub Size : ℕ → Type 0

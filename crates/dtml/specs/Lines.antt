@@ -1,5 +1,5 @@
 -- Figure 1 of document 000, as document 01, "The lines", has it: what each numbered line does, and a flush and a crash.
-use Prim.Native.Nat.{ℕ, zero, suc, _+_, _%_}
+use Prim.Native.Nat.{ℕ, _+_, _%_}
 use mathlib.Core.Bool.{Bool, true, false, not}
 use mathlib.Core.List.{List, map}
 use lib.ListN.{getD, set}

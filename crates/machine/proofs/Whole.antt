@@ -1,6 +1,5 @@
 -- What each call's returns ask, over plain values: unfit and no such record by the table; otherwise the call on what was handed on, put back in its place.
 use Prim.Native.Nat.{ℕ, _≤_, _<_}
-use native.Mathlib.Omega.{arith}
 use borrow.Author.Tests.{eq-eqb, eqb-true, not-false}
 use mathlib.Core.Path.{_≡_, refl, sym, ap, _∙_}
 use mathlib.Core.Bool.{Bool, true, false, not}
@@ -11,7 +10,7 @@ use Rattle.dtml.specs.declared.Tx.{Tx}
 use Rattle.dtml.specs.declared.Answer.{Answer}
 use Rattle.dtml.specs.declared.Answer.the-variants.{Unfit, NoRecord}
 use Rattle.dtml.specs.declared.Recovery.{Recovery}
-use Rattle.dtml.specs.Store.{Store, memory, recordAt, fresh}
+use Rattle.dtml.specs.Store.{memory, fresh}
 use Rattle.dtml.specs.Checks.{anyOf, unfit, unfitRows, unfitBeside, unfitTxs, Ask, Sys, on, sys}
 use Rattle.dtml.specs.Calls.{call, makeFresh, placed, settled, systemTxs, callOne, callSystem}
 use Rattle.dtml.proofs.Lift.{unfit-call, unfit-system, no-record, on-record, on-system, default-free, store-fits}
