@@ -8,8 +8,8 @@ use native.Mathlib.Omega.{arith}
 use borrow.Author.Tests.{ltb-false, le-ltb, leb-true, leb-false, lt-leb, eqb-true, eqb-false, eq-eqb, ne-eqb, not-false}
 use lib.Dec.{eqb, leb, ltb}
 use lib.ListN.{length, length-set}
-use Rattle.marks.specs.Marks.{pick, isMarked, unmarkOf, countOf, lowestOf, standsFrom}
-use Rattle.marks.proofs.Laws.{laws}
+use Rattle.bits.specs.Marks.{pick, isMarked, unmarkOf, countOf, lowestOf, standsFrom}
+use Rattle.bits.proofs.Laws.{laws}
 use Rattle.dtml.specs.declared.Tx.{Tx}
 use Rattle.dtml.specs.declared.Recovery.{Recovery}
 use Rattle.dtml.specs.declared.Recovery.the-variants.{Idle, C1, C2, C3, C4, C5, C6}

@@ -6,7 +6,7 @@ use mathlib.Core.Logic.{_⊎_, inl, inr}
 use lib.ListN.{length, getD, set, length-set}
 use lib.Seq.{getD-set-same, getD-set-other}
 use mathlib.Core.Bool.{Bool, true, false}
-use Rattle.marks.specs.Marks.{pick, isMarked}
+use Rattle.bits.specs.Marks.{pick, isMarked}
 use Rattle.dtml.specs.Store.{Memory}
 use Rattle.dtml.specs.Lines.{flushOf, flushWord}
 use Rattle.dtml.specs.Demands.{overlaid}

@@ -11,9 +11,9 @@ use mathlib.Core.List.{List}
 use lib.ListN.{length, getD, set, length-set}
 use lib.Seq.{getD-set-same, getD-set-other}
 use lib.Dec.{eqb}
-use Rattle.marks.specs.Marks.{isMarked, countOf, markOf, clearOf}
-use Rattle.marks.specs.Laws.{room}
-use Rattle.marks.proofs.Laws.{laws}
+use Rattle.bits.specs.Marks.{isMarked, countOf, markOf, clearOf}
+use Rattle.bits.specs.Laws.{room}
+use Rattle.bits.proofs.Laws.{laws}
 use Rattle.dtml.specs.declared.Tx.{Tx}
 use Rattle.dtml.specs.declared.Phase.{Phase}
 use Rattle.dtml.specs.declared.Phase.the-variants.{Fresh, Ready, Committed, Aborted, B1, B2, R1, R2, W1, W2, W3, W4, W5, W6, W7, E1, E2, E3}

@@ -5,13 +5,13 @@ use native.Mathlib.Omega.{arith}
 use native.Mathlib.Decide.{decLt}
 use borrow.Author.Tests.{eqb-true, eqb-false, not-true, not-false}
 use mathlib.Core.Path.{_≡_, refl, sym, ap, _∙_}
-use mathlib.Core.Bool.{true, false, not}
+use mathlib.Core.Bool.{true, false}
 use mathlib.Core.Logic.{_⊎_, inl, inr}
 use mathlib.Core.List.{List, map}
 use lib.ListN.{length, getD, length-set, length-map, List·getD-map}
 use lib.Seq.{getD-set-same, getD-set-other}
-use Rattle.marks.specs.Marks.{isMarked, countOf, unmarkOf, lowestOf}
-use Rattle.marks.proofs.Laws.{laws}
+use Rattle.bits.specs.Marks.{isMarked, countOf, unmarkOf, lowestOf}
+use Rattle.bits.proofs.Laws.{laws}
 use Rattle.dtml.specs.declared.Tx.{Tx}
 use Rattle.dtml.specs.declared.Phase.{Phase}
 use Rattle.dtml.specs.declared.Phase.the-variants.{Fresh, Ready, Committed, Aborted, B1, B2, R1, R2, W1, W2, W3, W4, W5, W6, W7, E1, E2, E3}

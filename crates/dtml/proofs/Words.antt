@@ -10,9 +10,9 @@ use borrow.Author.Tests.{eqb-true, eqb-false, eq-eqb, ne-eqb}
 use lib.ListN.{length, getD, set, length-set}
 use lib.Seq.{getD-set-same, getD-set-other}
 use lib.Dec.{eqb}
-use Rattle.marks.specs.Marks.{pick, isMarked, countOf}
-use Rattle.marks.specs.Laws.{room}
-use Rattle.marks.proofs.Laws.{laws}
+use Rattle.bits.specs.Marks.{pick, isMarked, countOf}
+use Rattle.bits.specs.Laws.{room}
+use Rattle.bits.proofs.Laws.{laws}
 use Rattle.dtml.specs.Lines.{even}
 use Rattle.dtml.specs.History.{Write, over, sees}
 use Rattle.dtml.proofs.Invariant.{Agree}

@@ -6,7 +6,7 @@ use mathlib.Core.Logic.{_⊎_, _↔_}
 use mathlib.Core.List.{List, [], _∷_}
 use lib.ListN.{length, getD, replicate}
 use lib.Dec.{leb}
-use Rattle.marks.specs.Marks.{pick, isMarked, countOf}
+use Rattle.bits.specs.Marks.{pick, isMarked, countOf}
 use Rattle.dtml.specs.declared.Phase.the-variants.{E2, E3}
 use Rattle.dtml.specs.Table.{says}
 use Rattle.dtml.specs.Store.{Memory, Store, recordAt}

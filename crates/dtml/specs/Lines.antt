@@ -4,7 +4,7 @@ use mathlib.Core.Bool.{Bool, true, false, not}
 use mathlib.Core.List.{List, map}
 use lib.ListN.{getD, set}
 use lib.Dec.{eqb}
-use Rattle.marks.specs.Marks.{pick, isMarked, markOf, unmarkOf, clearOf, countOf, lowestOf}
+use Rattle.bits.specs.Marks.{pick, isMarked, markOf, unmarkOf, clearOf, countOf, lowestOf}
 use Rattle.dtml.specs.declared.Tx.{Tx}
 use Rattle.dtml.specs.declared.Phase.{Phase}
 use Rattle.dtml.specs.declared.Phase.the-variants.{Fresh, Ready, Committed, Aborted, B1, B2, R1, R2, W1, W2, W3, W4, W5, W6, W7, E1, E2, E3}

@@ -1,5 +1,5 @@
 -- What a line asks of the rows it is handed, from the test that they are fit: each bound is a part of that test.
-use Prim.Native.Nat.{ℕ, _≤_, _<_}
+use Prim.Native.Nat.{ℕ, _<_}
 use mathlib.Core.Path.{_≡_, sym, _∙_}
 use mathlib.Core.Bool.{false}
 use mathlib.Core.List.{List}
@@ -12,7 +12,7 @@ use Rattle.dtml.specs.declared.Recovery.{Recovery}
 use Rattle.dtml.specs.declared.Tx.{Tx}
 use Rattle.dtml.specs.Checks.{phasePast, unfitOne}
 use Rattle.dtml.proofs.Fit.{fits, tx-fits, one-fits}
-use Rattle.lines.specs.Turning.{Room}
+use Rattle.lines.specs.Room.{Room}
 
 pub room : (vol pers old : List ℕ) (k : List ℕ) (g : ℕ) (r : Recovery) (t : Tx)
     → unfitOne (length vol) (length pers) (length old) k g r t ≡ false → Room vol pers old g t
@@ -34,6 +34,3 @@ pub word-in : {vol pers old : List ℕ} {g : ℕ} {t : Tx} (p : Phase) (w : ℕ)
 word-in {vol} p w r is test =
     let there : w < length vol = leb-false (length vol) w (sym test ∙ (rw is at (r .word-there))) in
     omega arith
-
-pub few-words : (vol pers old : ℕ) (k : List ℕ) (g : ℕ) (r : Recovery) (t : Tx) → unfitOne vol pers old k g r t ≡ false → vol ≤ 256
-few-words vol pers old k g r t h = fits vol pers old k g r (one-fits vol pers old k g r t h .beside) .few

@@ -3,10 +3,10 @@ use Prim.Native.Nat.{ℕ}
 use mathlib.Core.Path.{_≡_, refl}
 use mathlib.Core.Bool.{Bool, true, false}
 use mathlib.Core.List.{List}
-use Rattle.marks.specs.Marks.{pick}
+use Rattle.bits.specs.Marks.{pick}
 use Rattle.dtml.specs.Store.{Memory, memory}
-use Rattle.lines.specs.Turning.{didOf}
-use Rattle.lines.specs.declared.Turn.{Turn}
+use Rattle.turn.specs.Turning.{didOf}
+use Rattle.turn.specs.declared.Turn.{Turn}
 
 pub did-pick : (b : Bool) (x y : Turn) (m : Memory) → didOf (pick b x y) m ≡ pick b (didOf x m) (didOf y m)
 did-pick true x y m = refl

@@ -1,151 +1,23 @@
-// The calls of the step machine on one transaction's record, by value. Each tests for fitness all that it is handed, the three word rows, the marks,
-// the count, recovery and the record, and answers for all arguments.
+// The step on one transaction's record, by value: the one line at which it stands. It tests for fitness all that it is handed, the three word rows,
+// the marks, the count, recovery and the record, and answers for all arguments.
 mod transaction;
 
 use crate::transaction::line;
-use crate::transaction::to;
 use dtml::Answer;
-use dtml::Phase;
 use dtml::Recovery;
 use dtml::Tx;
 use marks::Marks;
 use parts::fit::is_at_line;
-use parts::fit::is_new;
-use parts::fit::is_waiting;
 use parts::fit::not_idle;
 use parts::fit::stage;
 use parts::fit::unfit_one;
+use turn::Turn;
+use turn::refused;
 ghost use mathlib.Core.Path.{_≡_};
 ghost use Rattle.dtml.specs.Store.{memory};
 ghost use Rattle.dtml.specs.Checks.{Ask};
 ghost use Rattle.dtml.specs.Calls.{callOne};
-ghost use Rattle.lines.specs.Turning.{didOf};
-
-// What a call on a record gives back.
-pub struct Turn {
-    pub answer: Answer,
-    pub tx: Tx,
-}
-
-fn refused(answer: Answer, tx: Tx) -> Turn
-    ensures { λ r. ⌜ r ≡ record { answer = answer; tx = tx } ⌝ }
-{
-    Turn { answer, tx }
-}
-
-pub fn begin(
-    vol: &[u32],
-    pers: &[u32],
-    old: &[u32],
-    marks: Marks,
-    glb: u32,
-    recovery: Recovery,
-    tx: Tx,
-) -> Turn
-    ensures { λ r. ⌜ didOf r (memory (now (vol .entry)) (now (pers .entry)) (now (old .entry)) marks glb)
-        ≡ callOne (memory (now (vol .entry)) (now (pers .entry)) (now (old .entry)) marks glb) recovery tx Ask.begin ⌝ }
-{
-    if unfit_one(vol.len(), pers.len(), old.len(), marks, glb, recovery, tx) {
-        return refused(Answer::Unfit, tx);
-    }
-    if not_idle(recovery) {
-        return refused(Answer::NotIdle, tx);
-    }
-    let phase = tx.phase;
-    if !is_new(stage(phase)) {
-        return refused(Answer::NotFresh, tx);
-    }
-    to(tx.loc, Phase::B1)
-}
-
-pub fn read(
-    vol: &[u32],
-    pers: &[u32],
-    old: &[u32],
-    marks: Marks,
-    glb: u32,
-    recovery: Recovery,
-    tx: Tx,
-    word: u64,
-) -> Turn
-    ensures { λ r. ⌜ didOf r (memory (now (vol .entry)) (now (pers .entry)) (now (old .entry)) marks glb)
-        ≡ callOne (memory (now (vol .entry)) (now (pers .entry)) (now (old .entry)) marks glb) recovery tx (Ask.read word) ⌝ }
-{
-    if unfit_one(vol.len(), pers.len(), old.len(), marks, glb, recovery, tx) {
-        return refused(Answer::Unfit, tx);
-    }
-    let past = vol.len() as u64 <= word;
-    let healing = not_idle(recovery);
-    if past {
-        return refused(Answer::NoWord, tx);
-    }
-    if healing {
-        return refused(Answer::NotIdle, tx);
-    }
-    let phase = tx.phase;
-    if !is_waiting(stage(phase)) {
-        return refused(Answer::NotReady, tx);
-    }
-    let w = word as u32;
-    to(tx.loc, Phase::R1 { word: w })
-}
-
-pub fn write(
-    vol: &[u32],
-    pers: &[u32],
-    old: &[u32],
-    marks: Marks,
-    glb: u32,
-    recovery: Recovery,
-    tx: Tx,
-    word: u64,
-    value: u32,
-) -> Turn
-    ensures { λ r. ⌜ didOf r (memory (now (vol .entry)) (now (pers .entry)) (now (old .entry)) marks glb)
-        ≡ callOne (memory (now (vol .entry)) (now (pers .entry)) (now (old .entry)) marks glb) recovery tx (Ask.write word value) ⌝ }
-{
-    if unfit_one(vol.len(), pers.len(), old.len(), marks, glb, recovery, tx) {
-        return refused(Answer::Unfit, tx);
-    }
-    if word >= vol.len() as u64 {
-        return refused(Answer::NoWord, tx);
-    }
-    if not_idle(recovery) {
-        return refused(Answer::NotIdle, tx);
-    }
-    let phase = tx.phase;
-    if !is_waiting(stage(phase)) {
-        return refused(Answer::NotReady, tx);
-    }
-    let w = word as u32;
-    to(tx.loc, Phase::W1 { word: w, value })
-}
-
-pub fn commit(
-    vol: &[u32],
-    pers: &[u32],
-    old: &[u32],
-    marks: Marks,
-    glb: u32,
-    recovery: Recovery,
-    tx: Tx,
-) -> Turn
-    ensures { λ r. ⌜ didOf r (memory (now (vol .entry)) (now (pers .entry)) (now (old .entry)) marks glb)
-        ≡ callOne (memory (now (vol .entry)) (now (pers .entry)) (now (old .entry)) marks glb) recovery tx Ask.commit ⌝ }
-{
-    if unfit_one(vol.len(), pers.len(), old.len(), marks, glb, recovery, tx) {
-        return refused(Answer::Unfit, tx);
-    }
-    if not_idle(recovery) {
-        return refused(Answer::NotIdle, tx);
-    }
-    let phase = tx.phase;
-    let ready = is_waiting(stage(phase));
-    if !ready {
-        return refused(Answer::NotReady, tx);
-    }
-    to(tx.loc, Phase::E1)
-}
+ghost use Rattle.turn.specs.Turning.{didOf};
 
 pub fn step(
     vol: &mut [u32],

@@ -1,37 +1,21 @@
 // The lines of a transaction, B1 to E3, on its record.
-use crate::Turn;
 use dtml::Answer;
 use dtml::Phase;
 use dtml::Tx;
 use marks::Marks;
 use parts::words::flush_word;
+use turn::Turn;
+use turn::answered;
+use turn::to;
 ghost use mathlib.Core.Path.{_≡_};
 ghost use Prim.Native.Nat.{_+_, _<_, _≤_};
 ghost use lib.ListN.{length, getD, set};
 ghost use lib.Dec.{eqb};
-ghost use Rattle.marks.specs.Marks.{pick, isMarked, markOf, clearOf};
+ghost use Rattle.bits.specs.Marks.{pick, isMarked, markOf, clearOf};
 ghost use Rattle.dtml.specs.Store.{memory};
 ghost use Rattle.dtml.specs.Lines.{even, flushOf, line as lineOf};
-ghost use Rattle.lines.specs.Turning.{turnOf, didOf, Room};
-
-// To the next line, with nothing to report.
-pub(crate) fn to(loc: u32, phase: Phase) -> Turn
-    ensures { λ r. ⌜ r ≡ turnOf (Answer.Taken 0) loc phase ⌝ }
-{
-    Turn {
-        answer: Answer::Taken { lines: 0 },
-        tx: Tx { loc, phase },
-    }
-}
-
-fn answered(answer: Answer, loc: u32, phase: Phase) -> Turn
-    ensures { λ r. ⌜ r ≡ turnOf answer loc phase ⌝ }
-{
-    Turn {
-        answer,
-        tx: Tx { loc, phase },
-    }
-}
+ghost use Rattle.turn.specs.Turning.{turnOf, didOf};
+ghost use Rattle.lines.specs.Room.{Room};
 
 fn b2(loc: u32) -> Turn
     ensures { λ r. ⌜ r ≡ pick (even loc) (turnOf Answer.Begun loc Phase.Ready) (turnOf (Answer.Taken 0) loc Phase.B1) ⌝ }

@@ -15,9 +15,9 @@ use Rattle.dtml.specs.Checks.{anyOf, unfit, unfitRows, unfitBeside, unfitTxs, A
 use Rattle.dtml.specs.Calls.{call, makeFresh, placed, settled, systemTxs, callOne, callSystem}
 use Rattle.dtml.proofs.Lift.{unfit-call, unfit-system, no-record, on-record, on-system, default-free, store-fits}
 use Rattle.dtml.proofs.Fit.{none}
-use Rattle.lines.specs.declared.Turn.{Turn}
+use Rattle.turn.specs.declared.Turn.{Turn}
 use Rattle.system.specs.declared.Heal.{Heal}
-use Rattle.lines.specs.Turning.{didOf}
+use Rattle.turn.specs.Turning.{didOf}
 use Rattle.system.specs.Healing.{healedOf}
 use Rattle.machine.specs.declared.Held.{Held}
 use Rattle.machine.specs.declared.After.{After}

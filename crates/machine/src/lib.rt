@@ -10,10 +10,10 @@ use dtml::Answer;
 use dtml::Phase;
 use dtml::Recovery;
 use dtml::Tx;
-use lines::Turn;
 use marks::Marks;
 use parts::fit::unfit_rows;
 use system::Heal;
+use turn::Turn;
 ghost use mathlib.Core.Path.{_≡_};
 ghost use Prim.Native.Nat.{_<_};
 ghost use lib.ListN.{set};
@@ -125,7 +125,7 @@ pub fn begin(vol: &[u32], pers: &[u32], old: &[u32], held: Held, txs: [Tx; 64], 
     }
     let i = id as usize;
     let tx = txs[i];
-    let turn = lines::begin(vol, pers, old, marks, glb, recovery, tx);
+    let turn = asks::begin(vol, pers, old, marks, glb, recovery, tx);
     placed(turn, held, txs, i)
 }
 
@@ -151,7 +151,7 @@ pub fn read(
     }
     let i = id as usize;
     let tx = txs[i];
-    let turn = lines::read(vol, pers, old, marks, glb, recovery, tx, word);
+    let turn = asks::read(vol, pers, old, marks, glb, recovery, tx, word);
     placed(turn, held, txs, i)
 }
 
@@ -178,7 +178,7 @@ pub fn write(
     }
     let i = id as usize;
     let tx = txs[i];
-    let turn = lines::write(vol, pers, old, marks, glb, recovery, tx, word, value);
+    let turn = asks::write(vol, pers, old, marks, glb, recovery, tx, word, value);
     placed(turn, held, txs, i)
 }
 
@@ -196,7 +196,7 @@ pub fn commit(vol: &[u32], pers: &[u32], old: &[u32], held: Held, txs: [Tx; 64],
     }
     let i = id as usize;
     let tx = txs[i];
-    let turn = lines::commit(vol, pers, old, marks, glb, recovery, tx);
+    let turn = asks::commit(vol, pers, old, marks, glb, recovery, tx);
     placed(turn, held, txs, i)
 }
 

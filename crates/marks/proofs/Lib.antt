@@ -1,4 +1,2 @@
--- The facts on one number's binary digits, the marks' laws on them, and what the code's steps through a row rest on.
-mod Digits
-pub mod Laws
+-- What the code's steps through a row rest on.
 mod Row

@@ -14,9 +14,9 @@ use lib.ListN.{length, getD, drop, replicate}
 use lib.Seq.{drop-cons}
 use mir.Syntax.{w64}
 use mir.Val.{Val}
-use Rattle.marks.specs.Marks.{clearOf, countOf, lowestOf, standsFrom}
-use Rattle.marks.proofs.Digits.{ones-all}
-use Rattle.marks.proofs.Laws.{lowest-here, lowest-there}
+use Rattle.bits.specs.Marks.{clearOf, countOf, lowestOf, standsFrom}
+use Rattle.bits.proofs.Digits.{ones-all}
+use Rattle.bits.proofs.Laws.{lowest-here, lowest-there}
 
 -- what owning an array of u64 tells of its numbers
 pub number-fits : (m : List ℕ) (us : List Val) → shadow (each ℕ (eInt w64 .ty .own) m us) → (i : ℕ) → getD m i 0 < 2 ^ 64

@@ -1,7 +1,7 @@
 // Which words are in the log: one mark bit for each word, in four 64-bit numbers by value.
 // Word w has bit `w % 64` of number `w / 64`. A word of 256 or more is never marked, and marking it changes nothing.
 ghost use mathlib.Core.Path.{_≡_};
-ghost use Rattle.marks.specs.Marks.{isMarked, markOf, unmarkOf, clearOf, countOf, lowestOf, standsFrom};
+ghost use Rattle.bits.specs.Marks.{isMarked, markOf, unmarkOf, clearOf, countOf, lowestOf, standsFrom};
 
 pub type Marks = [u64; 4];
 

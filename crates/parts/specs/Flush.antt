@@ -3,7 +3,7 @@ use Prim.Native.Nat.{ℕ}
 use mathlib.Core.List.{List}
 use lib.ListN.{length}
 use lib.Dec.{ltb}
-use Rattle.marks.specs.Marks.{pick}
+use Rattle.bits.specs.Marks.{pick}
 use Rattle.dtml.specs.Lines.{flushOf}
 
 unfoldable pub flushIn : List ℕ → List ℕ → ℕ → List ℕ

@@ -6,7 +6,7 @@ use mathlib.Core.Path.{_≡_, refl, _∙_}
 use native.Mathlib.Nat.{sub-zero}
 use native.Mathlib.Omega.{arith}
 use lib.ListN.{length}
-use Rattle.marks.specs.Marks.{pick}
+use Rattle.bits.specs.Marks.{pick}
 use Rattle.dtml.specs.declared.Answer.the-variants.{Taken, Recovered}
 use Rattle.dtml.specs.declared.Recovery.{Recovery}
 use Rattle.dtml.specs.Table.{says}

@@ -7,7 +7,7 @@ use native.Mathlib.Omega.{arith}
 use borrow.Author.Tests.{leb-false}
 use lib.Dec.{leb}
 use lib.ListN.{length}
-use Rattle.marks.specs.Marks.{lowestOf}
+use Rattle.bits.specs.Marks.{lowestOf}
 use Rattle.dtml.specs.declared.Recovery.{Recovery}
 use Rattle.dtml.specs.declared.Recovery.the-variants.{C2}
 use Rattle.dtml.specs.Checks.{unfitRecovery, unfitBeside}

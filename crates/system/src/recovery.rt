@@ -9,7 +9,7 @@ ghost use mathlib.Core.Path.{_≡_};
 ghost use mathlib.Core.Bool.{true, false};
 ghost use Prim.Native.Nat.{_<_};
 ghost use lib.ListN.{length, getD};
-ghost use Rattle.marks.specs.Marks.{pick, lowestOf};
+ghost use Rattle.bits.specs.Marks.{pick, lowestOf};
 ghost use Rattle.dtml.specs.Store.{memory};
 ghost use Rattle.dtml.specs.Lines.{anyMark, recoveryLine};
 ghost use Rattle.dtml.specs.Table.{says};

@@ -7,7 +7,7 @@ use native.Mathlib.Omega.{arith}
 use borrow.Author.Needs.{needs}
 use lib.Count.{ones, ones-le}
 use lib.ListN.{length, getD, drop, drop-of-length-le}
-use Rattle.marks.specs.Marks.{countOf}
+use Rattle.bits.specs.Marks.{countOf}
 use Rattle.marks.proofs.Row.{number-fits, count-next}
 use Rattle.marks.proofs.count.Statement.{statement}
 use Rattle.marks.proofs.count.Tie as tie

@@ -5,9 +5,9 @@ use native.Mathlib.Omega.{arith}
 use borrow.Author.Needs.{needs}
 use lib.Dec.{eqb}
 use lib.ListN.{getD}
-use Rattle.marks.specs.Marks.{isMarked}
-use Rattle.marks.proofs.Digits.{digit-shift}
-use Rattle.marks.proofs.Laws.{past-unmarked}
+use Rattle.bits.specs.Marks.{isMarked}
+use Rattle.bits.proofs.Digits.{digit-shift}
+use Rattle.bits.proofs.Laws.{past-unmarked}
 use Rattle.marks.proofs.is_marked.Statement.{statement}
 use Rattle.marks.proofs.is_marked.Tie as tie
 

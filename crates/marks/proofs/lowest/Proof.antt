@@ -7,7 +7,7 @@ use native.Mathlib.Numerals.{add-one}
 use native.Mathlib.Omega.{arith}
 use lib.Count.{trailing-le}
 use lib.ListN.{length, getD, drop, drop-of-length-le}
-use Rattle.marks.specs.Marks.{lowestOf}
+use Rattle.bits.specs.Marks.{lowestOf}
 use Rattle.marks.proofs.Row.{lowest-found, lowest-next}
 use Rattle.marks.proofs.lowest.Statement.{statement}
 use Rattle.marks.proofs.lowest.Tie as tie

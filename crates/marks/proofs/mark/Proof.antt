@@ -5,9 +5,9 @@ use Prim.Native.Nat.{ℕ, _/_, _%_}
 use native.Mathlib.Omega.{arith}
 use borrow.Author.Needs.{needs}
 use lib.ListN.{getD, set}
-use Rattle.marks.specs.Marks.{withMark}
-use Rattle.marks.proofs.Digits.{or-shift}
-use Rattle.marks.proofs.Laws.{with-past}
+use Rattle.bits.specs.Marks.{withMark}
+use Rattle.bits.proofs.Digits.{or-shift}
+use Rattle.bits.proofs.Laws.{with-past}
 use Rattle.marks.proofs.mark.Statement.{statement}
 use Rattle.marks.proofs.mark.Tie as tie
 

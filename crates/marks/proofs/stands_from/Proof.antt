@@ -7,8 +7,8 @@ use mathlib.Core.Logic.{⊎-elim}
 use native.Mathlib.Numerals.{add-one}
 use native.Mathlib.Omega.{arith}
 use lib.ListN.{length, getD, drop, drop-of-length-le}
-use Rattle.marks.specs.Marks.{standsFrom}
-use Rattle.marks.proofs.Digits.{none-past}
+use Rattle.bits.specs.Marks.{standsFrom}
+use Rattle.bits.proofs.Digits.{none-past}
 use Rattle.marks.proofs.Row.{number-fits, stands-found, stands-next}
 use Rattle.marks.proofs.stands_from.Statement.{statement}
 use Rattle.marks.proofs.stands_from.Tie as tie

@@ -4,7 +4,7 @@ use mathlib.Core.Path.{refl}
 use native.Mathlib.Omega.{arith}
 use borrow.Author.Needs.{needs}
 use lib.Dec.{eqb}
-use Rattle.marks.specs.Marks.{isMarked}
+use Rattle.bits.specs.Marks.{isMarked}
 use Rattle.dtml.specs.Lines.{lineAt, even}
 use Rattle.lines.proofs.Room.{word-in}
 use Rattle.lines.proofs.Tests.{did-pick, did-pick-glb}

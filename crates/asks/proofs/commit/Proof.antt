@@ -1,8 +1,8 @@
--- `lines::commit` meets its contract. Each return is the check that applies, after those before it did not: the tests' results are put for the tests in the definition's list of checks.
+-- `asks::commit` meets its contract. Each return is the check that applies, after those before it did not: the tests' results are put for the tests in the definition's list of checks.
 use borrow.Author.Needs.{needs}
 use Rattle.dtml.specs.Calls.{callOne, ask}
-use Rattle.lines.proofs.commit.Statement.{statement}
-use Rattle.lines.proofs.commit.Tie as tie
+use Rattle.asks.proofs.commit.Statement.{statement}
+use Rattle.asks.proofs.commit.Tie as tie
 
 unfit-one-requires : tie.Need-unfit-one-requires
 unfit-one-requires c κs = search needs

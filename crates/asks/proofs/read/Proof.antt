@@ -1,12 +1,12 @@
--- `lines::read` meets its contract. Each return is the check that applies, after those before it did not. The word fits 32 bits, since it is below N, and a fit N is at most 256.
+-- `asks::read` meets its contract. Each return is the check that applies, after those before it did not. The word fits 32 bits, since it is below N, and a fit N is at most 256.
 use mathlib.Core.Path.{sym, _∙_}
 use native.Mathlib.Omega.{arith}
 use borrow.Author.Needs.{needs}
 use borrow.Author.Tests.{leb-false}
 use Rattle.dtml.specs.Calls.{callOne, ask}
-use Rattle.lines.proofs.Room.{few-words}
-use Rattle.lines.proofs.read.Statement.{statement}
-use Rattle.lines.proofs.read.Tie as tie
+use Rattle.asks.proofs.Few.{few-words}
+use Rattle.asks.proofs.read.Statement.{statement}
+use Rattle.asks.proofs.read.Tie as tie
 
 unfit-one-requires : tie.Need-unfit-one-requires
 unfit-one-requires c κs = search needs

@@ -4,7 +4,7 @@ use mathlib.Core.Path.{_≡_}
 use mathlib.Core.Bool.{true, false}
 use mathlib.Core.List.{List}
 use lib.ListN.{length}
-use Rattle.marks.specs.Marks.{isMarked, markOf, unmarkOf, clearOf, countOf, lowestOf, standsFrom}
+use Rattle.bits.specs.Marks.{isMarked, markOf, unmarkOf, clearOf, countOf, lowestOf, standsFrom}
 
 -- the words that a row of mark numbers has a bit for
 abbrev pub room : List ℕ → ℕ

@@ -8,7 +8,7 @@ use native.Mathlib.Omega.{arith}
 use lib.Bits.{bitAnd, bitOr, or-step, and-step, or-zero-r, and-mask}
 use lib.Count.{onesIn, ones, ones-step, trailingZeros, under}
 use lib.Pow.{pow-lt, pow-mono, pow-pos, shl-exact, shr-shr, field, mod-pow-add}
-use Rattle.marks.specs.Marks.{digit, put}
+use Rattle.bits.specs.Marks.{digit, put}
 
 -- ---- one digit
 

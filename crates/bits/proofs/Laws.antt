@@ -11,9 +11,9 @@ use lib.Count.{onesIn, trailingZeros}
 use lib.Dec.{eqb, ltb}
 use lib.ListN.{length, getD, set, length-set, List·getD-eq-default}
 use lib.Seq.{set-out, getD-set-same, getD-set-other}
-use Rattle.marks.specs.Marks.{pick, digit, put, isMarked, withMark, markOf, unmarkOf, clearOf, countOf, lowestOf, standsFrom}
-use Rattle.marks.specs.Laws.{room, MarkLaws}
-use Rattle.marks.proofs.Digits.{digit-lt, digit-of-zero, digit-put-same, digit-put-other, ones-of-zero, ones-width, ones-put, ones-none, trailing-one, trailing-zero, trailing-none, high-digit, digit-high}
+use Rattle.bits.specs.Marks.{pick, digit, put, isMarked, withMark, markOf, unmarkOf, clearOf, countOf, lowestOf, standsFrom}
+use Rattle.bits.specs.Laws.{room, MarkLaws}
+use Rattle.bits.proofs.Digits.{digit-lt, digit-of-zero, digit-put-same, digit-put-other, ones-of-zero, ones-width, ones-put, ones-none, trailing-one, trailing-zero, trailing-none, high-digit, digit-high}
 
 -- ---- two numbers compared
 
