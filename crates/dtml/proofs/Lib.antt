@@ -14,3 +14,4 @@ pub mod Fitness
 pub mod Cost
 pub mod Demands
 pub mod Lift
+pub mod Counts

@@ -6,3 +6,4 @@ pub mod Calls
 pub mod Figure1
 pub mod History
 pub mod Demands
+pub mod Counting

@@ -1,6 +1,6 @@
 // The step machine: every call of document 01 on a whole store, for all arguments. The three word rows are lent; the marks, the count and
 // recovery go in and out by value, and so do the 64 records. A call that is refused gives all of them back as they came.
-mod records;
+pub mod records;
 mod rows;
 
 use crate::records::crash_txs;

@@ -47,7 +47,7 @@ pub(crate) fn unfit_store(
 }
 
 // What a crash leaves of the records.
-pub(crate) fn crash_txs(txs: [Tx; 64]) -> [Tx; 64]
+pub fn crash_txs(txs: [Tx; 64]) -> [Tx; 64]
     ensures { λ r. ⌜ r ≡ crashTxs txs ⌝ }
 {
     let mut next = txs;

@@ -1,0 +1,125 @@
+// Does one record of a trace, on the store without its records and the one record that it names.
+use dtml::Answer;
+use dtml::Recovery;
+use dtml::Tx;
+use marks::Marks;
+use reader::Act;
+use system::Heal;
+use turn::Turn;
+ghost use Prim.Native.Nat.{_<_};
+ghost use mathlib.Core.Path.{_≡_};
+ghost use Rattle.dtml.specs.Store.{memory};
+ghost use Rattle.reader.specs.Said.{callOf};
+ghost use Rattle.doing.specs.Carrying.{identifierOf, slotOf, carry, leftOf};
+
+// What is left beside the rows, the marks and the count.
+pub struct Carried {
+    pub answer: Answer,
+    pub recovery: Recovery,
+    pub tx: Tx,
+}
+
+fn turned(turn: Turn, recovery: Recovery) -> Carried
+    ensures { λ r. ⌜ r ≡ record { answer = turn .answer; recovery = recovery; tx = turn .tx } ⌝ }
+{
+    let answer = turn.answer;
+    let tx = turn.tx;
+    Carried {
+        answer,
+        recovery,
+        tx,
+    }
+}
+
+fn settled(heal: Heal, tx: Tx) -> Carried
+    ensures { λ r. ⌜ r ≡ record { answer = heal .answer; recovery = heal .recovery; tx = tx } ⌝ }
+{
+    let answer = heal.answer;
+    let recovery = heal.recovery;
+    Carried {
+        answer,
+        recovery,
+        tx,
+    }
+}
+
+// The identifier that the record names, or 0.
+fn identifier(act: Act) -> u64
+    ensures { λ r. ⌜ r ≡ identifierOf (callOf act) ⌝ }
+{
+    match act {
+        Act::Begin { id } => id,
+        Act::Read { id, word: _ } => id,
+        Act::Write {
+            id,
+            word: _,
+            value: _,
+        } => id,
+        Act::Commit { id } => id,
+        Act::Step { id } => id,
+        Act::Flush { word: _ } => 0,
+        Act::Crash => 0,
+        Act::Recover => 0,
+    }
+}
+
+// The place of the record that carry_out is to be handed.
+pub fn slot(act: Act) -> usize
+    ensures { λ r. ⌜ (r ≡ slotOf (callOf act)) × (r < 64) ⌝ }
+{
+    let id = identifier(act);
+    if 64 <= id {
+        return 0;
+    }
+    id as usize
+}
+
+pub fn carry_out(
+    vol: &mut [u32],
+    pers: &mut [u32],
+    old: &mut [u32],
+    marks: &mut Marks,
+    glb: &mut u32,
+    recovery: Recovery,
+    tx: Tx,
+    act: Act,
+) -> Carried
+    ensures { λ r. ⌜ leftOf r (memory (now (vol .exit)) (now (pers .exit)) (now (old .exit)) (now (marks .exit)) (now (glb .exit)))
+        ≡ carry (memory (now (vol .entry)) (now (pers .entry)) (now (old .entry)) (now (marks .entry)) (now (glb .entry))) recovery tx (callOf act) ⌝ }
+{
+    if 64 <= identifier(act) {
+        return Carried {
+            answer: Answer::NoRecord,
+            recovery,
+            tx,
+        };
+    }
+    match act {
+        Act::Begin { id: _ } => turned(
+            asks::begin(vol, pers, old, *marks, *glb, recovery, tx),
+            recovery,
+        ),
+        Act::Read { id: _, word } => turned(
+            asks::read(vol, pers, old, *marks, *glb, recovery, tx, word),
+            recovery,
+        ),
+        Act::Write { id: _, word, value } => turned(
+            asks::write(vol, pers, old, *marks, *glb, recovery, tx, word, value),
+            recovery,
+        ),
+        Act::Commit { id: _ } => turned(
+            asks::commit(vol, pers, old, *marks, *glb, recovery, tx),
+            recovery,
+        ),
+        Act::Step { id: _ } => turned(
+            lines::step(vol, pers, old, marks, glb, recovery, tx),
+            recovery,
+        ),
+        Act::Flush { word } => settled(
+            system::flush(vol, pers, old, *marks, *glb, recovery, word),
+            tx,
+        ),
+        Act::Crash => settled(system::crash(vol, pers, old, *marks, glb, recovery), tx),
+        Act::Recover => settled(system::recover(vol, pers, old, marks, glb, recovery), tx),
+    }
+}

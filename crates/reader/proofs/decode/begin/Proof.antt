@@ -1,0 +1,27 @@
+-- `reader::decode::begin` meets its contract: the body's first byte leads to the kind's row of the table, and the test of the length is the row's.
+use native.Mathlib.Nat.{add-comm}
+use borrow.Author.Needs.{needs}
+use borrow.Author.Tests.{eq-eqb, ne-eqb}
+use Rattle.reader.specs.Trace.{ofKind}
+use Rattle.reader.proofs.decode.begin.Statement.{statement}
+use Rattle.reader.proofs.decode.begin.Tie as tie
+
+returns : tie.Need-returns
+unfolding ofKind
+returns c = rw (c .before .before .pre, ne-eqb _ _ (c .if1 .taken))
+
+shared-slice-read-wide : tie.Need-shared-slice-read-wide
+shared-slice-read-wide c = search needs
+
+wide-requires : tie.Need-wide-requires
+wide-requires c κs = search needs
+
+add-t8 : tie.Need-add-t8
+add-t8 c = search needs
+
+returns-2 : tie.Need-returns-2
+unfolding ofKind
+returns-2 c = rw (c .before .before .before .before .pre, eq-eqb _ _ (c .before .before .if1 .left), c .wide .ensures, add-comm 2)
+
+pub begin-spec : {M : Type 1} → statement M
+begin-spec = tie.close (tie.spec returns shared-slice-read-wide wide-requires add-t8 returns-2)

@@ -1,0 +1,53 @@
+// Replays the trace that stands on standard input, on a store of its own, and writes what document 01 has it print.
+use dtml::Phase;
+use dtml::Recovery;
+use dtml::Tx;
+use libc::STDIN_FILENO;
+use libc::STDOUT_FILENO;
+use machine::Held;
+use reader::trace::header;
+use trace::replay;
+ghost use Prim.Native.Nat.{_≤_};
+ghost use mathlib.Core.Path.{_≡_};
+ghost use lib.ListN.{length};
+ghost use Rattle.text.specs.Buffer.{buffer, puts};
+ghost use Rattle.trace.specs.Replay.{printed};
+
+// What is printed of a trace, at the start of out, and its length.
+fn report(trace: &[u8], out: &mut [u8]) -> usize
+    ensures { λ r. ⌜ (buffer (now (out .exit)) r ≡ puts (buffer (now (out .entry)) 0) (printed (now (trace .entry))))
+        × (r ≤ length (now (out .exit))) ⌝ }
+{
+    let mut vol = [0u32; 256];
+    let mut pers = [0u32; 256];
+    let mut old = [0u32; 256];
+    let marks = [0u64; 4];
+    let held = Held {
+        marks,
+        glb: 0,
+        recovery: Recovery::Idle,
+    };
+    let tx = Tx {
+        loc: 0,
+        phase: Phase::Fresh,
+    };
+    let n = header(trace).words;
+    let done = replay(
+        trace,
+        &mut vol[..n],
+        &mut pers[..n],
+        &mut old[..n],
+        held,
+        [tx; 64],
+        out,
+    );
+    done.length
+}
+
+fn main() {
+    let mut bytes = [0u8; 65537];
+    let got = io::read_full(STDIN_FILENO, &mut bytes);
+    let mut text = [0u8; 655471];
+    let length = report(&bytes[..got], &mut text);
+    io::write_all(STDOUT_FILENO, &text[..length]);
+}

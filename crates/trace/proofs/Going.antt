@@ -1,0 +1,405 @@
+-- The loop's invariant: run from here, the rest of the trace ends as the whole trace does from a fresh store. A record more takes one call off the
+-- rest, and the definitions take the same step; at the end no call is left.
+use Prim.Native.Nat.{ℕ, _+_, _-_, _*_, _≤_, _<_}
+use native.Mathlib.Omega.{arith}
+use native.Mathlib.Nat.{zero-add}
+use mathlib.Core.Path.{_≡_, refl, sym, ap, subst, _∙_}
+use mathlib.Core.List.{List, [], _∷_}
+use lib.ListN.{length, getD, set, drop, length-drop, length-replicate}
+use lib.Seq.{drop-drop}
+use lib.Dec.{eqb, leb}
+use Rattle.bits.specs.Marks.{pick, countOf}
+use Rattle.bits.proofs.Laws.{laws}
+use Rattle.dtml.specs.declared.Recovery.{Recovery}
+use Rattle.dtml.specs.declared.Tx.{Tx}
+use Rattle.dtml.specs.Table.{Reply, reply}
+use Rattle.dtml.specs.Store.{Store, memory, store, fresh, recordAt}
+use Rattle.dtml.specs.Lines.{crashTxs}
+use Rattle.dtml.specs.Checks.{Call, notIdle}
+use Rattle.dtml.specs.Counting.{crashesIn, linesIn, cutIn}
+use Rattle.dtml.specs.Calls.{Outcome, call}
+use Rattle.dtml.specs.History.{Past, World, tell, dawn, runs}
+use Rattle.dtml.specs.Demands.{after}
+use Rattle.dtml.proofs.Words.{pick-case}
+use Rattle.dtml.proofs.Worlds.{InvW, tell-inv, dawn-inv}
+use Rattle.dtml.proofs.Low.{LowW, tell-low, dawn-low}
+use Rattle.dtml.proofs.Fitness.{never-unfit}
+use Rattle.dtml.proofs.Lift.{default-free}
+use Rattle.dtml.proofs.Counts.{tell-adds}
+use Rattle.machine.specs.declared.Held.{Held}
+use Rattle.machine.specs.Given.{storeOf}
+use Rattle.reader.specs.declared.Act.{Act}
+use Rattle.reader.specs.declared.Act.the-variants.{Begin, Read, Write, Commit, Step, Flush, Crash, Recover}
+use Rattle.reader.specs.declared.Item.{Item}
+use Rattle.reader.specs.declared.Item.the-variants.{End, Stops, Does}
+use Rattle.reader.specs.Said.{callOf, foundOf}
+use Rattle.reader.specs.Trace.{does, found, Script, script, scriptOf}
+use Rattle.reader.proofs.Scripts.{scriptFrom, script-more, script-end, script-stops, script-does, found-bytes}
+use Rattle.text.specs.Buffer.{Buffer, buffer, puts}
+use Rattle.text.proofs.Laws.{puts-length, puts-append}
+use Rattle.doing.specs.declared.Carried.{Carried}
+use Rattle.doing.specs.Carrying.{slotOf, carry, Left, leftOf, callTxs, putBack}
+use Rattle.doing.proofs.Carries.{slot-low, carries}
+use Rattle.tally.specs.Tally.{committedIn}
+use Rattle.trace.specs.declared.Totals.{Totals}
+use Rattle.trace.specs.Replay.{answers, answered, totals, totalsOf, Ending, done, answerText, answerLines, endText, textOf}
+use Rattle.trace.specs.declared.Replayed.{Replayed}
+use Rattle.trace.specs.Ends.{endingOf, counted, Few}
+
+abbrev pub restOf : List ℕ → ℕ → Script
+restOf bs at = scriptFrom (drop at bs)
+
+abbrev world : Store → Past → World
+world s p = record { store = s; past = p }
+
+pub record Going (n : ℕ) (bs first : List ℕ) (s : Store) (t : Totals) (at : ℕ) (o : Buffer) : Type 0 where
+  -- the past of the records done
+  pub past : Past
+  pub inv : InvW n (world s past)
+  pub low : LowW (world s past)
+  pub crashes : t .crashes ≡ past .crashes
+  pub lines : t .lines ≡ past .lines
+  pub cut : t .cut ≡ past .cut
+  -- the numbers are no larger than the records are many, and a record takes three bytes or more
+  pub few : Few (t .records) t
+  pub ahead : 3 * t .records + 3 ≤ at
+  pub within : at ≤ length bs
+  -- the rest ends as the whole does
+  pub ends : runs (world s past) (restOf bs at .calls) ≡ after n (scriptOf bs .calls)
+  pub records : t .records + length (restOf bs at .calls) ≡ length (scriptOf bs .calls)
+  pub committed : t .committed + answered 4 (answers s (restOf bs at .calls)) ≡ answered 4 (answers (fresh n) (scriptOf bs .calls))
+  pub refusal : restOf bs at .refusal ≡ scriptOf bs .refusal
+  pub text : puts o (answerLines (t .records + 1) (answers s (restOf bs at .calls))) ≡ puts (buffer first 0) (answerLines 1 (answers (fresh n) (scriptOf bs .calls)))
+
+-- ---- before the first record
+
+whole-rest : (bs : List ℕ) → restOf bs 3 ≡ scriptOf bs
+whole-rest bs = script-more (length (drop 3 bs)) (length bs) (drop 3 bs) (omega arith) (let z = length-drop 3 bs in omega arith)
+
+pub going-start : (n : ℕ) (bs first : List ℕ) → 0 < n → n ≤ 256 → 3 ≤ length bs → Going n bs first (fresh n) (totals 0 0 0 0 0) 3 (buffer first 0)
+unfolding dawn
+going-start n bs first some few three =
+    record {
+      past = dawn n .past;
+      inv = dawn-inv n some few;
+      low = dawn-low n;
+      crashes = refl;
+      lines = refl;
+      cut = refl;
+      few = record { records = omega arith; crashes = omega arith; lines = omega arith; cut = omega arith; committed = omega arith };
+      ahead = omega arith;
+      within = three;
+      ends = ap (λ (p : Script). after n (p .calls)) (whole-rest bs);
+      records = zero-add (length (restOf bs 3 .calls)) ∙ ap (λ (p : Script). length (p .calls)) (whole-rest bs);
+      committed =
+          zero-add (answered 4 (answers (fresh n) (restOf bs 3 .calls)))
+          ∙ ap (λ (p : Script). answered 4 (answers (fresh n) (p .calls))) (whole-rest bs);
+      refusal = ap (λ (p : Script). p .refusal) (whole-rest bs);
+      text = ap (λ (p : Script). puts (buffer first 0) (answerLines 1 (answers (fresh n) (p .calls)))) (whole-rest bs);
+    }
+
+-- ---- one record more
+
+-- a record of a trace is one crash, one line or one commit at the most, and cuts off no more words than there are marks for
+pub crashes-one : (act : Act) → crashesIn (callOf act) ≤ 1
+crashes-one (Begin i) = omega arith
+crashes-one (Read i w) = omega arith
+crashes-one (Write i w v) = omega arith
+crashes-one (Commit i) = omega arith
+crashes-one (Step i) = omega arith
+crashes-one (Flush w) = omega arith
+crashes-one Crash = omega arith
+crashes-one Recover = omega arith
+
+pub lines-one : (act : Act) (a : Reply) → linesIn (callOf act) a ≤ 1
+lines-one (Begin i) a = omega arith
+lines-one (Read i w) a = omega arith
+lines-one (Write i w v) a = omega arith
+lines-one (Commit i) a = omega arith
+lines-one (Step i) a = omega arith
+lines-one (Flush w) a = omega arith
+lines-one Crash a = omega arith
+lines-one Recover a = pick-case (λ k. k ≤ 1) (leb 9 (a .number)) (λ e. omega arith) (λ e. omega arith)
+
+pub cut-marks : (act : Act) (r : Recovery) (k : List ℕ) → cutIn (callOf act) r k ≤ countOf k
+cut-marks (Begin i) r k = omega arith
+cut-marks (Read i w) r k = omega arith
+cut-marks (Write i w v) r k = omega arith
+cut-marks (Commit i) r k = omega arith
+cut-marks (Step i) r k = omega arith
+cut-marks (Flush w) r k = omega arith
+cut-marks Crash r k = pick-case (λ x. x ≤ countOf k) (notIdle r) (λ e. omega arith) (λ e. omega arith)
+cut-marks Recover r k = omega arith
+
+pub committed-one : (a : Reply) → committedIn a ≤ 1
+committed-one a = pick-case (λ k. k ≤ 1) (eqb (a .number) 4) (λ e. omega arith) (λ e. omega arith)
+
+few-more : (t : Totals) (act : Act) (r : Recovery) (k : List ℕ) (a : Reply) → length k ≡ 4 → Few (t .records) t
+    → Few (t .records + 1) (counted t r k (callOf act) a)
+unfolding counted
+few-more t act r k a four f =
+    let c = crashes-one act in
+    let l = lines-one act a in
+    let m = cut-marks act r k in
+    let e = committed-one a in
+    let w = laws .count-room k in
+    record {
+      records = omega arith;
+      crashes = omega (arith, f .crashes);
+      lines = omega (arith, f .lines);
+      cut = omega (arith, f .cut);
+      committed = omega (arith, f .committed);
+    }
+
+module _ (n : ℕ) (bs first : List ℕ) (s : Store) (t : Totals) (at : ℕ) (o : Buffer) (going : Going n bs first s t at o) (act : Act) (bytes : ℕ)
+    (here : found (drop at bs) ≡ does (callOf act) bytes) where
+  c : Call
+  c = callOf act
+
+  w : World
+  w = world s (going .past)
+
+  rest-here : restOf bs at ≡ script (callOf act ∷ restOf bs (at + bytes) .calls) (restOf bs (at + bytes) .refusal)
+  rest-here =
+      script-does (drop at bs) (callOf act) bytes here
+      ∙ ap (λ (x : List ℕ). script (callOf act ∷ scriptFrom x .calls) (scriptFrom x .refusal)) (drop-drop bytes at bs)
+
+  call-on : Going n bs first (call s c .store) (counted t (s .rec) (s .mem .marks) c (call s c .reply)) (at + bytes) (puts o (answerText (t .records + 1) (call s c .reply)))
+  unfolding counted tell runs answers answered answerLines c w
+  call-on =
+      let adds = tell-adds n w c (going .inv) (going .low) in
+      let bounds = found-bytes (drop at bs) c bytes here in
+      let left = length-drop at bs in
+      let one : length (restOf bs at .calls) ≡ length (c ∷ restOf bs (at + bytes) .calls) = ap (λ (p : Script). length (p .calls)) rest-here in
+      let fours = ap (λ (p : Script). answered 4 (answers s (p .calls))) rest-here in
+      record {
+        past = tell w c .past;
+        inv = tell-inv n w c (going .inv);
+        low = tell-low n w c (going .inv) (going .low);
+        crashes = ap (λ k. k + crashesIn c) (going .crashes) ∙ sym (adds .crashes);
+        lines = ap (λ k. k + linesIn c (call s c .reply)) (going .lines) ∙ sym (adds .lines);
+        cut = ap (λ k. k + cutIn c (s .rec) (s .mem .marks)) (going .cut) ∙ sym (adds .cut);
+        few = few-more t act (s .rec) (s .mem .marks) (call s c .reply) (going .inv .shape .marks-long) (going .few);
+        ahead = omega (arith, going .ahead);
+        within = omega (arith, going .within);
+        ends = sym (ap (λ (p : Script). runs w (p .calls)) rest-here) ∙ going .ends;
+        records = omega (arith, going .records);
+        committed = omega (arith, going .committed);
+        refusal = sym (ap (λ (p : Script). p .refusal) rest-here) ∙ going .refusal;
+        text =
+            sym (puts-append o (answerText (t .records + 1) (call s c .reply)) (answerLines (t .records + 1 + 1) (answers (call s c .store) (restOf bs (at + bytes) .calls))))
+            ∙ sym (ap (λ (p : Script). puts o (answerLines (t .records + 1) (answers s (p .calls)))) rest-here)
+            ∙ going .text;
+      }
+
+  -- the record done on what it is handed, and put back
+  pub going-on : (l : Left) → l ≡ carry (s .mem) (s .rec) (recordAt (s .txs) (slotOf (callOf act))) (callOf act)
+      → Going n bs first (putBack s (callOf act) l .store) (counted t (s .rec) (s .mem .marks) (callOf act) (l .reply)) (at + bytes) (puts o (answerText (t .records + 1) (l .reply)))
+  unfolding c w
+  going-on l e =
+      subst (λ (x : Outcome). Going n bs first (x .store) (counted t (s .rec) (s .mem .marks) c (x .reply)) (at + bytes) (puts o (answerText (t .records + 1) (x .reply))))
+      (carries s c (never-unfit n w (going .inv) (going .low)) ∙ ap (putBack s c) (sym e))
+      call-on
+
+-- ---- after the last record
+
+totals-same : {a b c d e a′ b′ c′ d′ e′ : ℕ} → a ≡ a′ → b ≡ b′ → c ≡ c′ → d ≡ d′ → e ≡ e′ → totals a b c d e ≡ totals a′ b′ c′ d′ e′
+totals-same p q r s t = rw (p, q, r, s, t)
+
+-- how the code's end reads: the refusal k, with the number of the record refused
+abbrev pub ending : ℕ → Totals → Store → Ending
+ending k t s = record { refusal = k; number = pick (eqb k 0) 0 (t .records + 1); totals = t; store = s }
+
+module _ (n : ℕ) (bs first : List ℕ) (s : Store) (t : Totals) (at : ℕ) (o : Buffer) (going : Going n bs first s t at o) (k : ℕ) (over : restOf bs at ≡ script [] k) where
+  ended : world s (going .past) ≡ after n (scriptOf bs .calls)
+  unfolding runs
+  ended = sym (ap (λ (p : Script). runs (world s (going .past)) (p .calls)) over) ∙ going .ends
+
+  all-records : t .records ≡ length (scriptOf bs .calls)
+  all-records = let z : length (restOf bs at .calls) ≡ 0 = ap (λ (p : Script). length (p .calls)) over in omega (arith, going .records)
+
+  all-committed : t .committed ≡ answered 4 (answers (fresh n) (scriptOf bs .calls))
+  unfolding answers answered
+  all-committed = let z : answered 4 (answers s (restOf bs at .calls)) ≡ 0 = ap (λ (p : Script). answered 4 (answers s (p .calls))) over in omega (arith, going .committed)
+
+  all-totals : t ≡ totalsOf n (scriptOf bs .calls)
+  all-totals =
+      totals-same all-records
+      (going .crashes ∙ ap (λ (w : World). w .past .crashes) ended)
+      (going .lines ∙ ap (λ (w : World). w .past .lines) ended)
+      (going .cut ∙ ap (λ (w : World). w .past .cut) ended)
+      all-committed
+
+  last-refusal : k ≡ scriptOf bs .refusal
+  last-refusal = sym (ap (λ (p : Script). p .refusal) over) ∙ going .refusal
+
+  pub ends-so : ending k t s ≡ done n (scriptOf bs) .ending
+  ends-so =
+      ap (λ (j : ℕ). ending j t s) last-refusal
+      ∙ ap (λ (x : Totals). ending (scriptOf bs .refusal) x s) all-totals
+      ∙ ap (λ (w : World). ending (scriptOf bs .refusal) (totalsOf n (scriptOf bs .calls)) (w .store)) ended
+
+  lines-so : o ≡ puts (buffer first 0) (answerLines 1 (answers (fresh n) (scriptOf bs .calls)))
+  unfolding answers answerLines puts
+  lines-so = sym (ap (λ (p : Script). puts o (answerLines (t .records + 1) (answers s (p .calls)))) over) ∙ going .text
+
+  pub prints-so : (q : Buffer) → q ≡ puts o (endText k (ending k t s .number) t) → q ≡ puts (buffer first 0) (textOf (done n (scriptOf bs)))
+  unfolding textOf
+  prints-so q e =
+      e
+      ∙ ap (λ (x : Ending). puts o (endText (x .refusal) (x .number) (x .totals))) ends-so
+      ∙ ap (λ (x : Buffer). puts x (endText (done n (scriptOf bs) .ending .refusal) (done n (scriptOf bs) .ending .number) (done n (scriptOf bs) .ending .totals))) lines-so
+      ∙ sym (puts-append (buffer first 0) (answerLines 1 (answers (fresh n) (scriptOf bs .calls)))
+      (endText (done n (scriptOf bs) .ending .refusal) (done n (scriptOf bs) .ending .number) (done n (scriptOf bs) .ending .totals)))
+
+-- ---- the loop, over the code's values
+
+abbrev pub Looping : List ℕ → ℕ → List ℕ → List ℕ → List ℕ → List ℕ → List ℕ → List ℕ → ℕ → Recovery → List Tx → Totals → ℕ → ℕ → Type 0
+Looping trace n out₀ vol pers old out marks glb recovery rows totals at place =
+    Going n trace out₀ (store (memory vol pers old marks glb) recovery rows) totals at (buffer out place) × (length trace ≤ 65536)
+
+pub looping-start : (trace out vol pers old : List ℕ) (held : Held) (txs : List Tx) (t : Totals) → storeOf vol pers old held txs ≡ fresh (length vol)
+    → 1 ≤ length vol → length vol ≤ 256 → 3 ≤ length trace → length trace ≤ 65536 → t ≡ totals 0 0 0 0 0
+    → Looping trace (length vol) out vol pers old out (held .marks) (held .glb) (held .recovery) txs t 3 0
+looping-start trace out vol pers old held txs t e some few three short q =
+    (subst (λ (s : Store). Going (length vol) trace out s t 3 (buffer out 0)) (sym e) (rw q (going-start (length vol) trace out some few three)), short)
+
+-- the rows that a replay starts with are equally long
+module _ (vol pers old : List ℕ) (held : Held) (txs : List Tx) (e : storeOf vol pers old held txs ≡ fresh (length vol)) where
+  pub start-pers : length pers ≡ length vol
+  unfolding fresh
+  start-pers = ap (λ (s : Store). length (s .mem .pers)) e ∙ length-replicate (length vol) 0
+
+  pub start-old : length old ≡ length vol
+  unfolding fresh
+  start-old = ap (λ (s : Store). length (s .mem .old)) e ∙ length-replicate (length vol) 0
+
+crashed-rows : (act : Act) (ts : List Tx) → crashesIn (callOf act) ≡ 1 → crashTxs ts ≡ callTxs (callOf act) ts
+crashed-rows (Begin i) ts e = absurd (omega arith)
+crashed-rows (Read i w) ts e = absurd (omega arith)
+crashed-rows (Write i w v) ts e = absurd (omega arith)
+crashed-rows (Commit i) ts e = absurd (omega arith)
+crashed-rows (Step i) ts e = absurd (omega arith)
+crashed-rows (Flush w) ts e = absurd (omega arith)
+crashed-rows Crash ts e = refl
+crashed-rows Recover ts e = absurd (omega arith)
+
+kept-rows : (act : Act) (ts : List Tx) → (crashesIn (callOf act) ≡ 1 → ⊥) → ts ≡ callTxs (callOf act) ts
+kept-rows (Begin i) ts e = refl
+kept-rows (Read i w) ts e = refl
+kept-rows (Write i w v) ts e = refl
+kept-rows (Commit i) ts e = refl
+kept-rows (Step i) ts e = refl
+kept-rows (Flush w) ts e = refl
+kept-rows Crash ts e = absurd (e refl)
+kept-rows Recover ts e = refl
+
+module _ {trace : List ℕ} {n : ℕ} {out₀ vol pers old out marks : List ℕ} {glb : ℕ} {recovery : Recovery} {rows : List Tx} {totals : Totals} {at place : ℕ}
+    (loop : Looping trace n out₀ vol pers old out marks glb recovery rows totals at place) where
+  pub rows-long : length rows ≡ 64
+  rows-long = loop .0 .inv .shape .txs-long
+
+  pub vol-long : length vol ≡ n
+  vol-long = loop .0 .inv .shape .vol-long
+
+  pub pers-long : length pers ≡ n
+  pers-long = loop .0 .inv .shape .pers-long
+
+  pub old-long : length old ≡ n
+  old-long = loop .0 .inv .shape .old-long
+
+  pub out-long : length out ≡ length out₀
+  out-long =
+      sym (puts-length (buffer out place) (answerLines (totals .records + 1) (answers (store (memory vol pers old marks glb) recovery rows) (restOf trace at .calls))))
+      ∙ ap (λ (o : Buffer). length (o .bytes)) (loop .0 .text)
+      ∙ puts-length (buffer out₀ 0) (answerLines 1 (answers (fresh n) (scriptOf trace .calls)))
+
+  pub few-records : Few 65536 totals
+  few-records =
+      let f = loop .0 .few in
+      let a = loop .0 .ahead in
+      let b = loop .0 .within in
+      let m = loop .1 in
+      record {
+        records = omega arith;
+        crashes = omega (arith, f .crashes);
+        lines = omega (arith, f .lines);
+        cut = omega (arith, f .cut);
+        committed = omega (arith, f .committed);
+      }
+
+  pub next-record : totals .records < 65536
+  next-record =
+      let a = loop .0 .ahead in
+      let b = loop .0 .within in
+      let m = loop .1 in
+      omega arith
+
+  -- the trace ends, or a record is refused
+  module _ {item : Item} (said : foundOf item ≡ found (drop at trace)) where
+    pub at-end : item ≡ End → restOf trace at ≡ script [] 0
+    at-end is = script-end (drop at trace) (sym said ∙ ap foundOf is)
+
+    pub at-refusal : {k : ℕ} → item ≡ Stops k → restOf trace at ≡ script [] k
+    at-refusal {k} is = script-stops (drop at trace) k (sym said ∙ ap foundOf is)
+
+  pub over : {k m : ℕ} {r : Replayed} {out′ : List ℕ} → restOf trace at ≡ script [] k → m ≡ pick (eqb k 0) 0 (totals .records + 1)
+      → r ≡ record { refusal = k; number = m; totals = totals; length = r .length; held = record { marks = marks; glb = glb; recovery = recovery }; txs = rows }
+      → buffer out′ (r .length) ≡ puts (buffer out place) (endText k m totals)
+      → (endingOf r vol pers old ≡ done n (scriptOf trace) .ending) × (buffer out′ (r .length) ≡ puts (buffer out₀ 0) (textOf (done n (scriptOf trace))))
+  over {k} {m} {r} {out′} e f q o =
+      let s = store (memory vol pers old marks glb) recovery rows in (
+        ap (λ (x : Replayed). endingOf x vol pers old) q
+            ∙ ap (λ (j : ℕ). record { refusal = k; number = j; totals = totals; store = s }) f
+            ∙ ends-so n trace out₀ s totals at (buffer out place) (loop .0) k e,
+        prints-so n trace out₀ s totals at (buffer out place) (loop .0) k e (buffer out′ (r .length))
+            (o ∙ ap (λ (j : ℕ). puts (buffer out place) (endText k j totals)) f),
+      )
+
+  module _ {act : Act} {bytes : ℕ} {item : Item} (said : foundOf item ≡ found (drop at trace)) (is : item ≡ Does act bytes) where
+    here : found (drop at trace) ≡ does (callOf act) bytes
+    here = sym said ∙ ap foundOf is
+
+    pub nearer : length trace - (at + bytes) < length trace - at
+    nearer =
+        let b = found-bytes (drop at trace) (callOf act) bytes here in
+        let l = length-drop at trace in
+        let w = loop .0 .within in
+        omega arith
+
+    pub next-place : at + bytes ≤ 65536
+    next-place =
+        let b = found-bytes (drop at trace) (callOf act) bytes here in
+        let l = length-drop at trace in
+        let w = loop .0 .within in
+        let m = loop .1 in
+        omega arith
+
+    module _ {vol′ pers′ old′ out′ marks′ : List ℕ} {glb′ i : ℕ} {rows′ : List Tx} {totals′ : Totals} {place′ : ℕ} (d : Tx) (l : Carried)
+        (slot : i ≡ slotOf (callOf act))
+        (carried : leftOf l (memory vol′ pers′ old′ marks′ glb′) ≡ carry (memory vol pers old marks glb) recovery (getD rows i d) (callOf act))
+        (tallied : totals′ ≡ counted totals recovery marks (callOf act) (reply (l .answer)))
+        (printed : buffer out′ place′ ≡ puts (buffer out place) (answerText (totals′ .records) (reply (l .answer)))) where
+      pub again : rows′ ≡ callTxs (callOf act) (set rows i (l .tx))
+          → Looping trace n out₀ vol′ pers′ old′ out′ marks′ glb′ (l .recovery) rows′ totals′ (at + bytes) place′
+      unfolding counted
+      again e =
+          let low : i < length rows = rw (slot, rows-long) (slot-low (callOf act)) in
+          let same : getD rows i d ≡ recordAt rows (slotOf (callOf act)) = default-free rows i d low ∙ ap (recordAt rows) slot in
+          let step =
+          going-on n trace out₀ (store (memory vol pers old marks glb) recovery rows) totals at (buffer out place) (loop .0) act bytes here
+          (leftOf l (memory vol′ pers′ old′ marks′ glb′))
+          (carried ∙ ap (λ (x : Tx). carry (memory vol pers old marks glb) recovery x (callOf act)) same) in (
+            subst (λ (o : Buffer). Going n trace out₀ (store (memory vol′ pers′ old′ marks′ glb′) (l .recovery) rows′) totals′ (at + bytes) o)
+                (sym printed)
+                (rw (e, tallied, slot) step),
+            loop .1,
+          )
+
+      pub again-crash : crashesIn (callOf act) ≡ 1 → rows′ ≡ crashTxs (set rows i (l .tx))
+          → Looping trace n out₀ vol′ pers′ old′ out′ marks′ glb′ (l .recovery) rows′ totals′ (at + bytes) place′
+      again-crash k e = again (e ∙ crashed-rows act _ k)
+
+      pub again-kept : (crashesIn (callOf act) ≡ 1 → ⊥) → rows′ ≡ set rows i (l .tx)
+          → Looping trace n out₀ vol′ pers′ old′ out′ marks′ glb′ (l .recovery) rows′ totals′ (at + bytes) place′
+      again-kept k e = again (e ∙ kept-rows act _ k)

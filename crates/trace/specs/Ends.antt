@@ -1,0 +1,29 @@
+-- What the code of a replay is handed and gives back, as the definitions have it.
+use Prim.Native.Nat.{ℕ, _+_, _*_, _≤_}
+use mathlib.Core.List.{List}
+use Rattle.dtml.specs.declared.Recovery.{Recovery}
+use Rattle.dtml.specs.Table.{Reply}
+use Rattle.dtml.specs.Checks.{Call}
+use Rattle.dtml.specs.Counting.{crashesIn, linesIn, cutIn}
+use Rattle.machine.specs.Given.{storeOf}
+use Rattle.tally.specs.Tally.{committedIn}
+use Rattle.trace.specs.declared.Totals.{Totals}
+use Rattle.trace.specs.declared.Replayed.{Replayed}
+use Rattle.trace.specs.Replay.{Ending, totals}
+
+abbrev pub endingOf : Replayed → List ℕ → List ℕ → List ℕ → Ending
+endingOf r vol pers old =
+    record { refusal = r .refusal; number = r .number; totals = r .totals; store = storeOf vol pers old (r .held) (r .txs) }
+
+-- the T line's numbers after one record more, a call that found recovery at r and the marks k, and was answered a
+unfoldable pub counted : Totals → Recovery → List ℕ → Call → Reply → Totals
+counted t r k c a =
+    totals (t .records + 1) (t .crashes + crashesIn c) (t .lines + linesIn c a) (t .cut + cutIn c r k) (t .committed + committedIn a)
+
+-- the numbers of no more than so many records, each of which cuts off no more than 256 words
+pub record Few (most : ℕ) (t : Totals) : Type 0 where
+  pub records : t .records ≤ most
+  pub crashes : t .crashes ≤ most
+  pub lines : t .lines ≤ most
+  pub cut : t .cut ≤ 256 * most
+  pub committed : t .committed ≤ most

@@ -1,0 +1,85 @@
+// The end of a replay, and its last lines.
+use crate::Replayed;
+use crate::Totals;
+use dtml::Tx;
+use machine::Held;
+use text::put_stop;
+use text::put_totals;
+ghost use Prim.Native.Nat.{_+_, _<_};
+ghost use mathlib.Core.Path.{_≡_};
+ghost use lib.Dec.{eqb};
+ghost use Rattle.bits.specs.Marks.{pick};
+ghost use Rattle.text.specs.Buffer.{buffer, puts};
+ghost use Rattle.trace.specs.Replay.{totals as totalsFrom, stopText, endText};
+
+// Before the first record.
+pub(crate) fn nothing() -> Totals
+    ensures { λ r. ⌜ r ≡ totalsFrom 0 0 0 0 0 ⌝ }
+{
+    Totals {
+        records: 0,
+        crashes: 0,
+        lines: 0,
+        cut: 0,
+        committed: 0,
+    }
+}
+
+// The number of the record after those done, if it was refused.
+pub(crate) fn stopped_at(refusal: u64, records: u64) -> u64
+    requires { ⌜ records < 65536 ⌝ }
+    ensures { λ r. ⌜ r ≡ pick (eqb refusal 0) 0 (records + 1) ⌝ }
+{
+    if refusal == 0 {
+        return 0;
+    }
+    records + 1
+}
+
+// The X line, if a refusal stopped the replay.
+fn put_stop_if(out: &mut [u8], at: usize, refusal: u64, number: u64) -> usize
+    ensures { λ r. ⌜ buffer (now (out .exit)) r ≡ puts (buffer (now (out .entry)) at) (stopText refusal number) ⌝ }
+{
+    if refusal == 0 {
+        return at;
+    }
+    put_stop(out, at, refusal, number)
+}
+
+fn put_end(out: &mut [u8], at: usize, refusal: u64, number: u64, totals: Totals) -> usize
+    ensures { λ r. ⌜ buffer (now (out .exit)) r ≡ puts (buffer (now (out .entry)) at) (endText refusal number totals) ⌝ }
+{
+    let at = put_stop_if(out, at, refusal, number);
+    put_totals(
+        out,
+        at,
+        totals.records,
+        totals.crashes,
+        totals.lines,
+        totals.cut,
+        totals.committed,
+    )
+}
+
+pub(crate) fn ended(
+    out: &mut [u8],
+    at: usize,
+    refusal: u64,
+    number: u64,
+    totals: Totals,
+    held: Held,
+    txs: [Tx; 64],
+) -> Replayed
+    ensures { λ r. ⌜ (r ≡ record { refusal = refusal; number = number; totals = totals; length = r .length; held = held; txs = txs })
+        × (buffer (now (out .exit)) (r .length) ≡ puts (buffer (now (out .entry)) at) (endText refusal number totals)) ⌝ }
+{
+    let length = put_end(out, at, refusal, number, totals);
+    Replayed {
+        refusal,
+        number,
+        totals,
+        length,
+        held,
+        txs,
+    }
+}

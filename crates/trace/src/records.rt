@@ -1,0 +1,128 @@
+// The records of a trace, done one by one.
+use crate::Replayed;
+use crate::Totals;
+use crate::finish::ended;
+use crate::finish::nothing;
+use crate::finish::stopped_at;
+use doing::carry_out;
+use doing::slot;
+use dtml::Answer;
+use dtml::Recovery;
+use dtml::Tx;
+use machine::Held;
+use machine::records::crash_txs;
+use marks::Marks;
+use parts::answer::number;
+use parts::answer::value;
+use reader::Act;
+use reader::Item;
+use reader::trace::item_at;
+use tally::committed_in;
+use tally::crashes_in;
+use tally::cut_in;
+use tally::lines_in;
+use text::put_answer;
+ghost use Prim.Native.Nat.{_≤_};
+ghost use mathlib.Core.Path.{_≡_};
+ghost use lib.ListN.{length};
+ghost use Rattle.dtml.specs.Table.{reply};
+ghost use Rattle.dtml.specs.Store.{fresh};
+ghost use Rattle.machine.specs.Given.{storeOf};
+ghost use Rattle.reader.specs.Said.{callOf};
+ghost use Rattle.reader.specs.Trace.{scriptOf};
+ghost use Rattle.text.specs.Buffer.{buffer, puts};
+ghost use Rattle.trace.specs.Replay.{answerText, done as doneOf, textOf};
+ghost use Rattle.trace.specs.Ends.{endingOf, counted as countedOf, Few};
+
+// The numbers of the T line after one record more, which found recovery and the marks so.
+fn counted(totals: Totals, recovery: Recovery, marks: Marks, act: Act, answer: Answer) -> Totals
+    requires { ⌜ Few 65536 totals ⌝ }
+    ensures { λ r. ⌜ r ≡ countedOf totals recovery marks (callOf act) (reply answer) ⌝ }
+{
+    Totals {
+        records: totals.records + 1,
+        crashes: totals.crashes + crashes_in(act),
+        lines: totals.lines + lines_in(act, answer),
+        cut: totals.cut + cut_in(act, recovery, marks),
+        committed: totals.committed + committed_in(answer),
+    }
+}
+
+// The line of a record that was answered other than 0.
+fn put_answer_if(out: &mut [u8], at: usize, record_number: u64, answer: Answer) -> usize
+    ensures { λ r. ⌜ buffer (now (out .exit)) r ≡ puts (buffer (now (out .entry)) at) (answerText record_number (reply answer)) ⌝ }
+{
+    let n = number(answer);
+    if n == 0 {
+        return at;
+    }
+    put_answer(out, at, record_number, n, value(answer))
+}
+
+pub(crate) fn records(
+    trace: &[u8],
+    vol: &mut [u32],
+    pers: &mut [u32],
+    old: &mut [u32],
+    held: Held,
+    txs: [Tx; 64],
+    out: &mut [u8],
+) -> Replayed
+    requires { ⌜ (storeOf (now vol) (now pers) (now old) held txs ≡ fresh (length (now vol)))
+        × (1 ≤ length (now vol)) × (length (now vol) ≤ 256) × (3 ≤ length (now trace)) × (length (now trace) ≤ 65536) ⌝ }
+    ensures { λ r. ⌜ (endingOf r (now (vol .exit)) (now (pers .exit)) (now (old .exit)) ≡ doneOf (length (now (vol .entry))) (scriptOf (now (trace .entry))) .ending)
+        × (buffer (now (out .exit)) (r .length) ≡ puts (buffer (now (out .entry)) 0) (textOf (doneOf (length (now (vol .entry))) (scriptOf (now (trace .entry)))))) ⌝ }
+{
+    let mut marks = held.marks;
+    let mut glb = held.glb;
+    let mut recovery = held.recovery;
+    let mut rows = txs;
+    let mut totals = nothing();
+    let mut at: usize = 3;
+    let mut place: usize = 0;
+    loop {
+        let item = item_at(trace, at);
+        match item {
+            Item::Does { act, bytes } => {
+                let i = slot(act);
+                let tx = rows[i];
+                let log = marks;
+                let done = carry_out(vol, pers, old, &mut marks, &mut glb, recovery, tx, act);
+                let answer = done.answer;
+                totals = counted(totals, recovery, log, act, answer);
+                place = put_answer_if(out, place, totals.records, answer);
+                at += bytes;
+                recovery = done.recovery;
+                let turned = done.tx;
+                rows[i] = turned;
+                if crashes_in(act) == 1 {
+                    rows = crash_txs(rows);
+                }
+            }
+            Item::Stops { refusal } => {
+                let held = Held {
+                    marks,
+                    glb,
+                    recovery,
+                };
+                return ended(
+                    out,
+                    place,
+                    refusal,
+                    stopped_at(refusal, totals.records),
+                    totals,
+                    held,
+                    rows,
+                );
+            }
+            Item::End => {
+                let held = Held {
+                    marks,
+                    glb,
+                    recovery,
+                };
+                return ended(out, place, 0, 0, totals, held, rows);
+            }
+        }
+    }
+}
