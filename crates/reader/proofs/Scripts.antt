@@ -2,7 +2,7 @@
 -- What a header's refusal says: where it is 0 no check applies, since no check has the number 0; else it is the first that applies.
 use Prim.Native.Nat.{ℕ, zero, suc, _+_, _≤_, _<_}
 use mathlib.Core.Path.{_≡_, refl, sym, ap, _∙_}
-use mathlib.Core.Bool.{Bool, true, false}
+use mathlib.Core.Bool.{Bool, true, false, not}
 use mathlib.Core.Logic.{_⊎_, inl, inr}
 use mathlib.Core.List.{List, [], _∷_}
 use native.Mathlib.Omega.{arith}
@@ -15,7 +15,7 @@ use Rattle.dtml.specs.Checks.{anyOf, Check, first, Call}
 use Rattle.dtml.proofs.Words.{same-or-not, pick-case}
 use Rattle.dtml.proofs.Fit.{last, none}
 use Rattle.reader.specs.declared.Header.{Header}
-use Rattle.reader.specs.Trace.{byte, two, wordsOf, headerChecks, Kind, kinds, Found, end, stops, does, ofKind, found, Script, script, follow, scriptUpTo}
+use Rattle.reader.specs.Trace.{byte, two, version, wordsOf, headerChecks, Kind, kinds, Found, end, stops, does, ofKind, found, Script, script, follow, scriptUpTo}
 use Rattle.reader.specs.Said.{headerOf}
 
 -- ---- a record's bytes
@@ -100,6 +100,36 @@ script-does bs c k e =
     ∙ rw e
     (ap (λ (x : Script). script (c ∷ x .calls) (x .refusal))
     (script-more (length bs) (length (drop k bs)) (drop k bs) (shorter bs c k (length bs) e (omega arith)) (omega arith)))
+
+-- ---- a refusal's number
+
+does-not : {A : Type 0} {c : Call} {k n : ℕ} → does c k ≡ stops n → A
+does-not e = let z : _≡_ {A = ℕ} 0 1 = cc in absurd (omega arith)
+
+end-no-stop : {A : Type 0} {n : ℕ} → end ≡ stops n → A
+end-no-stop e = let z : _≡_ {A = ℕ} 0 1 = cc in absurd (omega arith)
+
+stops-small : {m n : ℕ} → m < 100 → stops m ≡ stops n → n < 100
+stops-small {m} {n} h e = let z : m ≡ n = cc in omega arith
+
+kind-refusal : (ks : List Kind) (body : List ℕ) (n : ℕ) → ofKind ks body ≡ stops n → n < 100
+unfolding ofKind
+kind-refusal [] body n = stops-small (omega arith)
+kind-refusal (x ∷ xs) body n =
+    let P : Found → Type 0 = λ f. (f ≡ stops n → n < 100) in
+    pick-case P (eqb (byte body 0) (x .number))
+    (λ e. pick-case P (eqb (length body) (x .long)) (λ e. does-not) (λ e. stops-small (omega arith)))
+    (λ e. kind-refusal xs body n)
+
+pub found-refusal : (bs : List ℕ) (n : ℕ) → found bs ≡ stops n → n < 100
+unfolding found
+found-refusal bs n =
+    let P : Found → Type 0 = λ f. (f ≡ stops n → n < 100) in
+    pick-case P (eqb (length bs) 0) (λ e. end-no-stop)
+    (λ e. pick-case P (ltb (length bs) 2) (λ e. stops-small (omega arith))
+    (λ e. pick-case P (eqb (two bs 0) 0) (λ e. stops-small (omega arith))
+    (λ e. pick-case P (ltb (length bs) (2 + two bs 0)) (λ e. stops-small (omega arith))
+    (λ e. kind-refusal kinds (take (two bs 0) (drop 2 bs)) n))))
 
 -- ---- the first check that applies
 
@@ -192,3 +222,13 @@ header-few bs = go (same-or-not (headerOf bs .refusal) 0)
     go : (headerOf bs .refusal ≡ 0) ⊎ (headerOf bs .refusal ≡ 0 → ⊥) → headerOf bs .words ≤ 256
     go (inl e) = let h = header-sound bs e in omega (arith, h .0, h .2)
     go (inr h) = let z = header-no-words bs h in omega arith
+
+pub header-number : (bs : List ℕ) → headerOf bs .refusal < 100
+header-number bs =
+    let P : ℕ → Type 0 = λ n. n < 100 in
+    rw (header-refusal bs)
+    (pick-case P (ltb 65536 (length bs)) (λ e. omega arith)
+    (λ e. pick-case P (eqb (length bs) 0) (λ e. omega arith)
+    (λ e. pick-case P (not (eqb (version bs) 1)) (λ e. omega arith)
+    (λ e. pick-case P (ltb (length bs) 3) (λ e. omega arith)
+    (λ e. pick-case P (anyOf (eqb (wordsOf bs) 0 ∷ ltb 256 (wordsOf bs) ∷ [])) (λ e. omega arith) (λ e. omega arith))))))

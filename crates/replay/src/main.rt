@@ -7,16 +7,17 @@ use libc::STDOUT_FILENO;
 use machine::Held;
 use reader::trace::header;
 use trace::replay;
-ghost use Prim.Native.Nat.{_≤_};
 ghost use mathlib.Core.Path.{_≡_};
-ghost use lib.ListN.{length};
-ghost use Rattle.text.specs.Buffer.{buffer, puts};
+ghost use mathlib.Core.List.{_++_};
+ghost use lib.ListN.{length, drop};
+ghost use Rattle.io.specs.Counts.{Counts};
 ghost use Rattle.trace.specs.Replay.{printed};
 
-// What is printed of a trace, at the start of out, and its length.
+// Puts what is printed of a trace at the start of out, which has room for any, and gives its length.
 fn report(trace: &[u8], out: &mut [u8]) -> usize
-    ensures { λ r. ⌜ (buffer (now (out .exit)) r ≡ puts (buffer (now (out .entry)) 0) (printed (now (trace .entry))))
-        × (r ≤ length (now (out .exit))) ⌝ }
+    requires { ⌜ length (now out) ≡ 655438 ⌝ }
+    ensures { λ r. ⌜ (now (out .exit) ≡ printed (now (trace .entry)) ++ drop r (now (out .entry)))
+        × (r ≡ length (printed (now (trace .entry)))) × Counts r (now (out .exit)) ⌝ }
 {
     let mut vol = [0u32; 256];
     let mut pers = [0u32; 256];
@@ -44,10 +45,17 @@ fn report(trace: &[u8], out: &mut [u8]) -> usize
     done.length
 }
 
+// Room for any text.
+fn room() -> [u8; 655438]
+    ensures { λ r. ⌜ 655438 ≡ length r ⌝ }
+{
+    [0; 655438]
+}
+
 fn main() {
     let mut bytes = [0u8; 65537];
     let got = io::read_full(STDIN_FILENO, &mut bytes);
-    let mut text = [0u8; 655471];
+    let mut text = room();
     let length = report(&bytes[..got], &mut text);
     io::write_all(STDOUT_FILENO, &text[..length]);
 }

@@ -39,23 +39,6 @@ unfolding puts
 puts-length o [] = refl
 puts-length o (b ∷ t) = puts-length (put o b) t ∙ put-length o b
 
-put-within : (o : Buffer) (b : ℕ) → o .at ≤ length (o .bytes) → put o b .at ≤ length (o .bytes)
-unfolding put
-put-within o b h = go (ltb (o .at) (length (o .bytes))) refl
-  where
-    go : (t : Bool) → ltb (o .at) (length (o .bytes)) ≡ t → pick t (buffer (set (o .bytes) (o .at) b) (o .at + 1)) o .at ≤ length (o .bytes)
-    go true e = let z = ltb-true (o .at) (length (o .bytes)) e in omega arith
-    go false e = h
-
--- the place stays in the buffer
-pub puts-within : (o : Buffer) (t : List ℕ) → o .at ≤ length (o .bytes) → puts o t .at ≤ length (o .bytes)
-unfolding puts
-puts-within o [] h = h
-puts-within o (b ∷ t) h =
-    let same = put-length o b in
-    let here = put-within o b h in
-    rw same at (puts-within (put o b) t (rw same here))
-
 pub puts-append : (o : Buffer) (s t : List ℕ) → puts o (s ++ t) ≡ puts (puts o s) t
 unfolding puts
 puts-append o [] t = refl

@@ -4,8 +4,8 @@ use Prim.Native.Nat.{ℕ, _+_, _-_, _*_, _≤_, _<_}
 use native.Mathlib.Omega.{arith}
 use native.Mathlib.Nat.{zero-add}
 use mathlib.Core.Path.{_≡_, refl, sym, ap, subst, _∙_}
-use mathlib.Core.List.{List, [], _∷_}
-use lib.ListN.{length, getD, set, drop, length-drop, length-replicate}
+use mathlib.Core.List.{List, [], _∷_, _++_, append-assoc, append-nil}
+use lib.ListN.{length, getD, set, drop, length-append, length-drop, length-replicate}
 use lib.Seq.{drop-drop}
 use lib.Dec.{eqb, leb}
 use Rattle.bits.specs.Marks.{pick, countOf}
@@ -34,17 +34,17 @@ use Rattle.reader.specs.declared.Item.{Item}
 use Rattle.reader.specs.declared.Item.the-variants.{End, Stops, Does}
 use Rattle.reader.specs.Said.{callOf, foundOf}
 use Rattle.reader.specs.Trace.{does, found, Script, script, scriptOf}
-use Rattle.reader.proofs.Scripts.{scriptFrom, script-more, script-end, script-stops, script-does, found-bytes}
+use Rattle.reader.proofs.Scripts.{scriptFrom, script-more, script-end, script-stops, script-does, found-bytes, found-refusal}
 use Rattle.text.specs.Buffer.{Buffer, buffer, puts}
-use Rattle.text.proofs.Laws.{puts-length, puts-append}
+use Rattle.text.proofs.Laws.{puts-length, puts-append, stop-short, totals-short}
 use Rattle.doing.specs.declared.Carried.{Carried}
 use Rattle.doing.specs.Carrying.{slotOf, carry, Left, leftOf, callTxs, putBack}
 use Rattle.doing.proofs.Carries.{slot-low, carries}
 use Rattle.tally.specs.Tally.{committedIn}
 use Rattle.trace.specs.declared.Totals.{Totals}
-use Rattle.trace.specs.Replay.{answers, answered, totals, totalsOf, Ending, done, answerText, answerLines, endText, textOf}
+use Rattle.trace.specs.Replay.{answers, answered, totals, totalsOf, Ending, done, answerText, answerLines, stopText, totalsText, endText, textOf}
 use Rattle.trace.specs.declared.Replayed.{Replayed}
-use Rattle.trace.specs.Ends.{endingOf, counted, Few}
+use Rattle.trace.specs.Ends.{endingOf, longest, Ends, counted, Few}
 
 abbrev pub restOf : List ℕ → ℕ → Script
 restOf bs at = scriptFrom (drop at bs)
@@ -69,7 +69,11 @@ pub record Going (n : ℕ) (bs first : List ℕ) (s : Store) (t : Totals) (at : 
   pub records : t .records + length (restOf bs at .calls) ≡ length (scriptOf bs .calls)
   pub committed : t .committed + answered 4 (answers s (restOf bs at .calls)) ≡ answered 4 (answers (fresh n) (scriptOf bs .calls))
   pub refusal : restOf bs at .refusal ≡ scriptOf bs .refusal
-  pub text : puts o (answerLines (t .records + 1) (answers s (restOf bs at .calls))) ≡ puts (buffer first 0) (answerLines 1 (answers (fresh n) (scriptOf bs .calls)))
+  -- the text so far, in the buffer, and no more than thirty bytes for each record
+  pub sofar : List ℕ
+  pub put-so : o ≡ puts (buffer first 0) sofar
+  pub brief : length sofar ≤ 30 * t .records
+  pub text : sofar ++ answerLines (t .records + 1) (answers s (restOf bs at .calls)) ≡ answerLines 1 (answers (fresh n) (scriptOf bs .calls))
 
 -- ---- before the first record
 
@@ -77,7 +81,7 @@ whole-rest : (bs : List ℕ) → restOf bs 3 ≡ scriptOf bs
 whole-rest bs = script-more (length (drop 3 bs)) (length bs) (drop 3 bs) (omega arith) (let z = length-drop 3 bs in omega arith)
 
 pub going-start : (n : ℕ) (bs first : List ℕ) → 0 < n → n ≤ 256 → 3 ≤ length bs → Going n bs first (fresh n) (totals 0 0 0 0 0) 3 (buffer first 0)
-unfolding dawn
+unfolding dawn puts
 going-start n bs first some few three =
     record {
       past = dawn n .past;
@@ -95,7 +99,10 @@ going-start n bs first some few three =
           zero-add (answered 4 (answers (fresh n) (restOf bs 3 .calls)))
           ∙ ap (λ (p : Script). answered 4 (answers (fresh n) (p .calls))) (whole-rest bs);
       refusal = ap (λ (p : Script). p .refusal) (whole-rest bs);
-      text = ap (λ (p : Script). puts (buffer first 0) (answerLines 1 (answers (fresh n) (p .calls)))) (whole-rest bs);
+      sofar = [];
+      put-so = refl;
+      brief = omega arith;
+      text = ap (λ (p : Script). answerLines 1 (answers (fresh n) (p .calls))) (whole-rest bs);
     }
 
 -- ---- one record more
@@ -164,9 +171,13 @@ module _ (n : ℕ) (bs first : List ℕ) (s : Store) (t : Totals) (at : ℕ) (o 
       script-does (drop at bs) (callOf act) bytes here
       ∙ ap (λ (x : List ℕ). script (callOf act ∷ scriptFrom x .calls) (scriptFrom x .refusal)) (drop-drop bytes at bs)
 
-  call-on : Going n bs first (call s c .store) (counted t (s .rec) (s .mem .marks) c (call s c .reply)) (at + bytes) (puts o (answerText (t .records + 1) (call s c .reply)))
+  call-on : length (answerText (t .records + 1) (call s c .reply)) ≤ 30
+      → Going n bs first (call s c .store) (counted t (s .rec) (s .mem .marks) c (call s c .reply)) (at + bytes) (puts o (answerText (t .records + 1) (call s c .reply)))
   unfolding counted tell runs answers answered answerLines c w
-  call-on =
+  call-on short =
+      let line = answerText (t .records + 1) (call s c .reply) in
+      let after-it = answerLines (t .records + 1 + 1) (answers (call s c .store) (restOf bs (at + bytes) .calls)) in
+      let both = length-append (going .sofar) line in
       let adds = tell-adds n w c (going .inv) (going .low) in
       let bounds = found-bytes (drop at bs) c bytes here in
       let left = length-drop at bs in
@@ -186,20 +197,25 @@ module _ (n : ℕ) (bs first : List ℕ) (s : Store) (t : Totals) (at : ℕ) (o 
         records = omega (arith, going .records);
         committed = omega (arith, going .committed);
         refusal = sym (ap (λ (p : Script). p .refusal) rest-here) ∙ going .refusal;
+        sofar = going .sofar ++ line;
+        put-so = ap (λ (x : Buffer). puts x line) (going .put-so) ∙ sym (puts-append (buffer first 0) (going .sofar) line);
+        brief = omega (arith, going .brief);
         text =
-            sym (puts-append o (answerText (t .records + 1) (call s c .reply)) (answerLines (t .records + 1 + 1) (answers (call s c .store) (restOf bs (at + bytes) .calls))))
-            ∙ sym (ap (λ (p : Script). puts o (answerLines (t .records + 1) (answers s (p .calls)))) rest-here)
+            append-assoc (going .sofar) line after-it
+            ∙ sym (ap (λ (p : Script). going .sofar ++ answerLines (t .records + 1) (answers s (p .calls))) rest-here)
             ∙ going .text;
       }
 
   -- the record done on what it is handed, and put back
   pub going-on : (l : Left) → l ≡ carry (s .mem) (s .rec) (recordAt (s .txs) (slotOf (callOf act))) (callOf act)
+      → length (answerText (t .records + 1) (l .reply)) ≤ 30
       → Going n bs first (putBack s (callOf act) l .store) (counted t (s .rec) (s .mem .marks) (callOf act) (l .reply)) (at + bytes) (puts o (answerText (t .records + 1) (l .reply)))
   unfolding c w
-  going-on l e =
+  going-on l e short =
+      let done-so = carries s c (never-unfit n w (going .inv) (going .low)) ∙ ap (putBack s c) (sym e) in
       subst (λ (x : Outcome). Going n bs first (x .store) (counted t (s .rec) (s .mem .marks) c (x .reply)) (at + bytes) (puts o (answerText (t .records + 1) (x .reply))))
-      (carries s c (never-unfit n w (going .inv) (going .low)) ∙ ap (putBack s c) (sym e))
-      call-on
+      done-so
+      (call-on (subst (λ (x : Outcome). length (answerText (t .records + 1) (x .reply)) ≤ 30) (sym done-so) short))
 
 -- ---- after the last record
 
@@ -209,6 +225,30 @@ totals-same p q r s t = rw (p, q, r, s, t)
 -- how the code's end reads: the refusal k, with the number of the record refused
 abbrev pub ending : ℕ → Totals → Store → Ending
 ending k t s = record { refusal = k; number = pick (eqb k 0) 0 (t .records + 1); totals = t; store = s }
+
+-- the X line takes 11 bytes at the most, the T line 107
+pub end-short : (k m : ℕ) (t : Totals) → k < 100 → m < 100000 → Few 65536 t → length (endText k m t) ≤ 118
+end-short k m t a b f =
+    let both = length-append (stopText k m) (totalsText t) in
+    let stop : length (stopText k m) ≤ 11 =
+    pick-case (λ (x : List ℕ). length x ≤ 11) (eqb k 0) (λ e. omega arith) (λ e. stop-short k m a b) in
+    let last =
+    totals-short (t .records) (t .crashes) (t .lines) (t .cut) (t .committed)
+    (omega (arith, f .records)) (omega (arith, f .crashes)) (omega (arith, f .lines)) (omega (arith, f .cut)) (omega (arith, f .committed)) in
+    omega arith
+
+number-low : (k r : ℕ) → r < 65536 → pick (eqb k 0) 0 (r + 1) < 100000
+number-low k r h = pick-case (λ x. x < 100000) (eqb k 0) (λ e. omega arith) (λ e. omega arith)
+
+few-below : (m : ℕ) (t : Totals) → Few m t → m < 65536 → Few 65536 t
+few-below m t f h =
+    record {
+      records = omega (arith, f .records);
+      crashes = omega (arith, f .crashes);
+      lines = omega (arith, f .lines);
+      cut = omega (arith, f .cut);
+      committed = omega (arith, f .committed);
+    }
 
 module _ (n : ℕ) (bs first : List ℕ) (s : Store) (t : Totals) (at : ℕ) (o : Buffer) (going : Going n bs first s t at o) (k : ℕ) (over : restOf bs at ≡ script [] k) where
   ended : world s (going .past) ≡ after n (scriptOf bs .calls)
@@ -239,16 +279,32 @@ module _ (n : ℕ) (bs first : List ℕ) (s : Store) (t : Totals) (at : ℕ) (o 
       ∙ ap (λ (x : Totals). ending (scriptOf bs .refusal) x s) all-totals
       ∙ ap (λ (w : World). ending (scriptOf bs .refusal) (totalsOf n (scriptOf bs .calls)) (w .store)) ended
 
-  lines-so : o ≡ puts (buffer first 0) (answerLines 1 (answers (fresh n) (scriptOf bs .calls)))
-  unfolding answers answerLines puts
-  lines-so = sym (ap (λ (p : Script). puts o (answerLines (t .records + 1) (answers s (p .calls)))) over) ∙ going .text
+  lines-so : going .sofar ≡ answerLines 1 (answers (fresh n) (scriptOf bs .calls))
+  unfolding answers answerLines
+  lines-so =
+      sym (append-nil (going .sofar))
+      ∙ sym (ap (λ (p : Script). going .sofar ++ answerLines (t .records + 1) (answers s (p .calls))) over)
+      ∙ going .text
+
+  -- the records' lines, thirty bytes each at the most, and the last two
+  pub text-so : k < 100 → length bs ≤ 65536 → length (textOf (done n (scriptOf bs))) ≤ longest
+  unfolding textOf
+  text-so small fits =
+      let e = done n (scriptOf bs) .ending in
+      let lines = answerLines 1 (answers (fresh n) (scriptOf bs .calls)) in
+      let both = length-append lines (endText (e .refusal) (e .number) (e .totals)) in
+      let ends = end-short k (ending k t s .number) t small (number-low k (t .records) (omega (arith, going .ahead, going .within)))
+      (few-below (t .records) t (going .few) (omega (arith, going .ahead, going .within))) in
+      let same = ap (λ (x : Ending). length (endText (x .refusal) (x .number) (x .totals))) ends-so in
+      let so = ap length lines-so in
+      omega (arith, going .brief, going .ahead, going .within)
 
   pub prints-so : (q : Buffer) → q ≡ puts o (endText k (ending k t s .number) t) → q ≡ puts (buffer first 0) (textOf (done n (scriptOf bs)))
   unfolding textOf
   prints-so q e =
       e
       ∙ ap (λ (x : Ending). puts o (endText (x .refusal) (x .number) (x .totals))) ends-so
-      ∙ ap (λ (x : Buffer). puts x (endText (done n (scriptOf bs) .ending .refusal) (done n (scriptOf bs) .ending .number) (done n (scriptOf bs) .ending .totals))) lines-so
+      ∙ ap (λ (x : Buffer). puts x (endText (done n (scriptOf bs) .ending .refusal) (done n (scriptOf bs) .ending .number) (done n (scriptOf bs) .ending .totals))) (going .put-so ∙ ap (puts (buffer first 0)) lines-so)
       ∙ sym (puts-append (buffer first 0) (answerLines 1 (answers (fresh n) (scriptOf bs .calls)))
       (endText (done n (scriptOf bs) .ending .refusal) (done n (scriptOf bs) .ending .number) (done n (scriptOf bs) .ending .totals)))
 
@@ -309,24 +365,7 @@ module _ {trace : List ℕ} {n : ℕ} {out₀ vol pers old out marks : List ℕ}
   old-long = loop .0 .inv .shape .old-long
 
   pub out-long : length out ≡ length out₀
-  out-long =
-      sym (puts-length (buffer out place) (answerLines (totals .records + 1) (answers (store (memory vol pers old marks glb) recovery rows) (restOf trace at .calls))))
-      ∙ ap (λ (o : Buffer). length (o .bytes)) (loop .0 .text)
-      ∙ puts-length (buffer out₀ 0) (answerLines 1 (answers (fresh n) (scriptOf trace .calls)))
-
-  pub few-records : Few 65536 totals
-  few-records =
-      let f = loop .0 .few in
-      let a = loop .0 .ahead in
-      let b = loop .0 .within in
-      let m = loop .1 in
-      record {
-        records = omega arith;
-        crashes = omega (arith, f .crashes);
-        lines = omega (arith, f .lines);
-        cut = omega (arith, f .cut);
-        committed = omega (arith, f .committed);
-      }
+  out-long = ap (λ (o : Buffer). length (o .bytes)) (loop .0 .put-so) ∙ puts-length (buffer out₀ 0) (loop .0 .sofar)
 
   pub next-record : totals .records < 65536
   next-record =
@@ -335,26 +374,43 @@ module _ {trace : List ℕ} {n : ℕ} {out₀ vol pers old out marks : List ℕ}
       let m = loop .1 in
       omega arith
 
+  pub next-number : (totals′ : Totals) (c : Call) (a : Reply) → totals′ ≡ counted totals recovery marks c a → totals′ .records < 100000
+  unfolding counted
+  next-number totals′ c a e =
+      let z : totals′ .records ≡ totals .records + 1 = ap (λ (t : Totals). t .records) e in
+      let y = next-record in
+      omega arith
+
+  pub few-records : Few 65536 totals
+  few-records = few-below (totals .records) totals (loop .0 .few) next-record
+
   -- the trace ends, or a record is refused
   module _ {item : Item} (said : foundOf item ≡ found (drop at trace)) where
     pub at-end : item ≡ End → restOf trace at ≡ script [] 0
     at-end is = script-end (drop at trace) (sym said ∙ ap foundOf is)
 
+    pub refusal-small : {k : ℕ} → item ≡ Stops k → k < 100
+    refusal-small {k} is = found-refusal (drop at trace) k (sym said ∙ ap foundOf is)
+
     pub at-refusal : {k : ℕ} → item ≡ Stops k → restOf trace at ≡ script [] k
     at-refusal {k} is = script-stops (drop at trace) k (sym said ∙ ap foundOf is)
 
-  pub over : {k m : ℕ} {r : Replayed} {out′ : List ℕ} → restOf trace at ≡ script [] k → m ≡ pick (eqb k 0) 0 (totals .records + 1)
+  pub over : {k m : ℕ} {r : Replayed} {out′ : List ℕ} → k < 100 → restOf trace at ≡ script [] k → m ≡ pick (eqb k 0) 0 (totals .records + 1)
       → r ≡ record { refusal = k; number = m; totals = totals; length = r .length; held = record { marks = marks; glb = glb; recovery = recovery }; txs = rows }
       → buffer out′ (r .length) ≡ puts (buffer out place) (endText k m totals)
-      → (endingOf r vol pers old ≡ done n (scriptOf trace) .ending) × (buffer out′ (r .length) ≡ puts (buffer out₀ 0) (textOf (done n (scriptOf trace))))
-  over {k} {m} {r} {out′} e f q o =
-      let s = store (memory vol pers old marks glb) recovery rows in (
-        ap (λ (x : Replayed). endingOf x vol pers old) q
+      → Ends (done n (scriptOf trace)) r vol pers old out₀ out′
+  over {k} {m} {r} {out′} small e f q o =
+      let s = store (memory vol pers old marks glb) recovery rows in
+      record {
+        ending =
+            ap (λ (x : Replayed). endingOf x vol pers old) q
             ∙ ap (λ (j : ℕ). record { refusal = k; number = j; totals = totals; store = s }) f
-            ∙ ends-so n trace out₀ s totals at (buffer out place) (loop .0) k e,
-        prints-so n trace out₀ s totals at (buffer out place) (loop .0) k e (buffer out′ (r .length))
-            (o ∙ ap (λ (j : ℕ). puts (buffer out place) (endText k j totals)) f),
-      )
+            ∙ ends-so n trace out₀ s totals at (buffer out place) (loop .0) k e;
+        text =
+            prints-so n trace out₀ s totals at (buffer out place) (loop .0) k e (buffer out′ (r .length))
+            (o ∙ ap (λ (j : ℕ). puts (buffer out place) (endText k j totals)) f);
+        short = text-so n trace out₀ s totals at (buffer out place) (loop .0) k e small (loop .1);
+      }
 
   module _ {act : Act} {bytes : ℕ} {item : Item} (said : foundOf item ≡ found (drop at trace)) (is : item ≡ Does act bytes) where
     here : found (drop at trace) ≡ does (callOf act) bytes
@@ -379,7 +435,8 @@ module _ {trace : List ℕ} {n : ℕ} {out₀ vol pers old out marks : List ℕ}
         (slot : i ≡ slotOf (callOf act))
         (carried : leftOf l (memory vol′ pers′ old′ marks′ glb′) ≡ carry (memory vol pers old marks glb) recovery (getD rows i d) (callOf act))
         (tallied : totals′ ≡ counted totals recovery marks (callOf act) (reply (l .answer)))
-        (printed : buffer out′ place′ ≡ puts (buffer out place) (answerText (totals′ .records) (reply (l .answer)))) where
+        (printed : buffer out′ place′ ≡ puts (buffer out place) (answerText (totals′ .records) (reply (l .answer))))
+        (short : length (answerText (totals′ .records) (reply (l .answer))) ≤ 30) where
       pub again : rows′ ≡ callTxs (callOf act) (set rows i (l .tx))
           → Looping trace n out₀ vol′ pers′ old′ out′ marks′ glb′ (l .recovery) rows′ totals′ (at + bytes) place′
       unfolding counted
@@ -389,7 +446,8 @@ module _ {trace : List ℕ} {n : ℕ} {out₀ vol pers old out marks : List ℕ}
           let step =
           going-on n trace out₀ (store (memory vol pers old marks glb) recovery rows) totals at (buffer out place) (loop .0) act bytes here
           (leftOf l (memory vol′ pers′ old′ marks′ glb′))
-          (carried ∙ ap (λ (x : Tx). carry (memory vol pers old marks glb) recovery x (callOf act)) same) in (
+          (carried ∙ ap (λ (x : Tx). carry (memory vol pers old marks glb) recovery x (callOf act)) same)
+          (rw tallied at short) in (
             subst (λ (o : Buffer). Going n trace out₀ (store (memory vol′ pers′ old′ marks′ glb′) (l .recovery) rows′) totals′ (at + bytes) o)
                 (sym printed)
                 (rw (e, tallied, slot) step),

@@ -1,8 +1,8 @@
 -- A whole replay: a header that is refused or rows that do not fit end it before anything is done; else the store is made fresh, and the records are done.
-use Prim.Native.Nat.{ℕ, _≤_}
+use Prim.Native.Nat.{ℕ, _≤_, _<_}
 use native.Mathlib.Omega.{arith}
 use borrow.Author.Tests.{eq-eqb, ne-eqb, le-ltb, eqb-true, not-false}
-use mathlib.Core.Path.{_≡_, refl, sym, ap, _∙_}
+use mathlib.Core.Path.{_≡_, refl, sym, ap, subst, _∙_}
 use mathlib.Core.Bool.{Bool, true, false, not}
 use mathlib.Core.List.{List, [], _∷_}
 use lib.ListN.{length, length-replicate}
@@ -18,16 +18,13 @@ use Rattle.machine.specs.Given.{storeOf, outcomeOf}
 use Rattle.reader.specs.declared.Header.{Header}
 use Rattle.reader.specs.Said.{headerOf}
 use Rattle.reader.specs.Trace.{wordsOf, scriptOf}
-use Rattle.reader.proofs.Scripts.{header-sound, header-taken, header-refused}
+use Rattle.reader.proofs.Scripts.{header-sound, header-taken, header-refused, header-number}
 use Rattle.text.specs.Buffer.{buffer, puts}
 use Rattle.trace.specs.declared.Totals.{Totals}
 use Rattle.trace.specs.declared.Replayed.{Replayed}
 use Rattle.trace.specs.Replay.{totals, Replay, stopped, done, replay, answerLines, endText, textOf}
-use Rattle.trace.specs.Ends.{endingOf}
-
--- the code's end is that of the replay p
-abbrev Ends : Replay → Replayed → List ℕ → List ℕ → List ℕ → List ℕ → List ℕ → Type 0
-Ends p r vol pers old out out′ = (endingOf r vol pers old ≡ p .ending) × (buffer out′ (r .length) ≡ puts (buffer out 0) (textOf p))
+use Rattle.trace.specs.Ends.{endingOf, longest, Ends, Few}
+use Rattle.trace.proofs.Going.{end-short}
 
 -- a test over three rows, and the records after them
 some-unfit : (a b c d : Bool) → anyOf (a ∷ b ∷ c ∷ []) ≡ true → anyOf (a ∷ b ∷ c ∷ d ∷ []) ≡ true
@@ -44,17 +41,27 @@ all-fit v p o n h =
     (eqb-true v n (not-false _ (a .0)), eqb-true p n (not-false _ (b .0)), eqb-true o n (not-false _ c))
 
 module _ (bs vol pers old out : List ℕ) (held : Held) (txs : List Tx) (head : Header) (said : head ≡ headerOf bs) (long : length txs ≡ 64) where
-  stop-so : (k : ℕ) (z : Totals) (r : Replayed) (out′ : List ℕ) → replay bs (storeOf vol pers old held txs) ≡ stopped k (storeOf vol pers old held txs)
+  stop-so : (k : ℕ) (z : Totals) (r : Replayed) (out′ : List ℕ) → k < 100 → replay bs (storeOf vol pers old held txs) ≡ stopped k (storeOf vol pers old held txs)
       → z ≡ totals 0 0 0 0 0 → r ≡ record { refusal = k; number = 0; totals = z; length = r .length; held = held; txs = txs }
       → buffer out′ (r .length) ≡ puts (buffer out 0) (endText k 0 z) → Ends (replay bs (storeOf vol pers old held txs)) r vol pers old out out′
   unfolding textOf answerLines
-  stop-so k z r out′ e f q o =
-      let s = storeOf vol pers old held txs in (
-        ap (λ (x : Replayed). endingOf x vol pers old) q
+  stop-so k z r out′ small e f q o =
+      let s = storeOf vol pers old held txs in
+      let none : Few 65536 (totals 0 0 0 0 0) =
+      record { records = omega arith; crashes = omega arith; lines = omega arith; cut = omega arith; committed = omega arith } in
+      record {
+        ending =
+            ap (λ (x : Replayed). endingOf x vol pers old) q
             ∙ ap (λ (x : Totals). record { refusal = k; number = 0; totals = x; store = s }) f
-            ∙ sym (ap (λ (p : Replay). p .ending) e),
-        o ∙ ap (λ (x : Totals). puts (buffer out 0) (endText k 0 x)) f ∙ sym (ap (λ (p : Replay). puts (buffer out 0) (textOf p)) e),
-      )
+            ∙ sym (ap (λ (p : Replay). p .ending) e);
+        text =
+            o
+            ∙ ap (λ (x : Totals). puts (buffer out 0) (endText k 0 x)) f
+            ∙ sym (ap (λ (p : Replay). puts (buffer out 0) (textOf p)) e);
+        short =
+            let brief = end-short k 0 (totals 0 0 0 0 0) small (omega arith) none in
+            subst (λ (p : Replay). length (textOf p) ≤ longest) (sym e) (omega arith);
+      }
 
   pub header-stops : (z : Totals) (r : Replayed) (out′ : List ℕ) → (head .refusal ≡ 0 → ⊥) → z ≡ totals 0 0 0 0 0
       → r ≡ record { refusal = head .refusal; number = 0; totals = z; length = r .length; held = held; txs = txs }
@@ -62,6 +69,7 @@ module _ (bs vol pers old out : List ℕ) (held : Held) (txs : List Tx) (head : 
   unfolding replay
   header-stops z r out′ h f q o =
       stop-so (head .refusal) z r out′
+      (rw (ap (λ (x : Header). x .refusal) said) (header-number bs))
       (header-refused bs (λ k. stopped k (storeOf vol pers old held txs)) _ (λ e. h (ap (λ (x : Header). x .refusal) said ∙ e))
       ∙ ap (λ k. stopped k (storeOf vol pers old held txs)) (sym (ap (λ (x : Header). x .refusal) said)))
       f q o
@@ -82,6 +90,7 @@ module _ (bs vol pers old out : List ℕ) (held : Held) (txs : List Tx) (head : 
         let unfit : anyOf (not (eqb (length vol) (wordsOf bs)) ∷ not (eqb (length pers) (wordsOf bs)) ∷ not (eqb (length old) (wordsOf bs)) ∷ []) ≡ true =
         sym (ap (λ (n : ℕ). anyOf (not (eqb (length vol) n) ∷ not (eqb (length pers) n) ∷ not (eqb (length old) n) ∷ [])) words) ∙ sym tested ∙ h in
         stop-so 9 z r out′
+        (omega arith)
         (header-taken bs (λ k. stopped k (storeOf vol pers old held txs)) _ taken ∙ rw (some-unfit (not (eqb (length vol) (wordsOf bs))) (not (eqb (length pers) (wordsOf bs))) (not (eqb (length old) (wordsOf bs))) (not (eqb (length txs) 64)) unfit))
         f q o
 
@@ -124,4 +133,4 @@ module _ (bs vol pers old out : List ℕ) (held : Held) (txs : List Tx) (head : 
           → Ends (replay bs (storeOf vol pers old held txs)) r vol′ pers′ old′ out out′
       records-so n r vol′ pers′ old′ out′ e f =
           let g = ap (λ (k : ℕ). done k (scriptOf bs)) e ∙ sym goes in
-          (f .0 ∙ ap (λ (p : Replay). p .ending) g, f .1 ∙ ap (λ (p : Replay). puts (buffer out 0) (textOf p)) g)
+          subst (λ (p : Replay). Ends p r vol′ pers′ old′ out out′) g f

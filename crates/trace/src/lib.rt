@@ -14,9 +14,8 @@ ghost use mathlib.Core.List.{[], _∷_};
 ghost use lib.Dec.{eqb};
 ghost use Rattle.dtml.specs.Checks.{anyOf};
 ghost use Rattle.machine.specs.Given.{storeOf};
-ghost use Rattle.text.specs.Buffer.{buffer, puts};
-ghost use Rattle.trace.specs.Replay.{replay as replayed, textOf};
-ghost use Rattle.trace.specs.Ends.{endingOf};
+ghost use Rattle.trace.specs.Replay.{replay as replayed};
+ghost use Rattle.trace.specs.Ends.{Ends};
 
 // The numbers of the T line: records done, crashes, recovery lines carried out, words entered in transactions that a crash cut off before
 // their E2, transactions committed.
@@ -62,10 +61,8 @@ pub fn replay(
     txs: [Tx; 64],
     out: &mut [u8],
 ) -> Replayed
-    ensures { λ r. ⌜ (endingOf r (now (vol .exit)) (now (pers .exit)) (now (old .exit))
-        ≡ replayed (now (trace .entry)) (storeOf (now (vol .entry)) (now (pers .entry)) (now (old .entry)) held txs) .ending)
-        × (buffer (now (out .exit)) (r .length)
-        ≡ puts (buffer (now (out .entry)) 0) (textOf (replayed (now (trace .entry)) (storeOf (now (vol .entry)) (now (pers .entry)) (now (old .entry)) held txs)))) ⌝ }
+    ensures { λ r. ⌜ Ends (replayed (now (trace .entry)) (storeOf (now (vol .entry)) (now (pers .entry)) (now (old .entry)) held txs)) r
+        (now (vol .exit)) (now (pers .exit)) (now (old .exit)) (now (out .entry)) (now (out .exit)) ⌝ }
 {
     let head = header(trace);
     let refusal = head.refusal;

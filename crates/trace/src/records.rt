@@ -22,7 +22,7 @@ use tally::crashes_in;
 use tally::cut_in;
 use tally::lines_in;
 use text::put_answer;
-ghost use Prim.Native.Nat.{_≤_};
+ghost use Prim.Native.Nat.{_≤_, _<_};
 ghost use mathlib.Core.Path.{_≡_};
 ghost use lib.ListN.{length};
 ghost use Rattle.dtml.specs.Table.{reply};
@@ -31,8 +31,8 @@ ghost use Rattle.machine.specs.Given.{storeOf};
 ghost use Rattle.reader.specs.Said.{callOf};
 ghost use Rattle.reader.specs.Trace.{scriptOf};
 ghost use Rattle.text.specs.Buffer.{buffer, puts};
-ghost use Rattle.trace.specs.Replay.{answerText, done as doneOf, textOf};
-ghost use Rattle.trace.specs.Ends.{endingOf, counted as countedOf, Few};
+ghost use Rattle.trace.specs.Replay.{answerText, done as doneOf};
+ghost use Rattle.trace.specs.Ends.{Ends, counted as countedOf, Few};
 
 // The numbers of the T line after one record more, which found recovery and the marks so.
 fn counted(totals: Totals, recovery: Recovery, marks: Marks, act: Act, answer: Answer) -> Totals
@@ -50,7 +50,9 @@ fn counted(totals: Totals, recovery: Recovery, marks: Marks, act: Act, answer: A
 
 // The line of a record that was answered other than 0.
 fn put_answer_if(out: &mut [u8], at: usize, record_number: u64, answer: Answer) -> usize
-    ensures { λ r. ⌜ buffer (now (out .exit)) r ≡ puts (buffer (now (out .entry)) at) (answerText record_number (reply answer)) ⌝ }
+    requires { ⌜ record_number < 100000 ⌝ }
+    ensures { λ r. ⌜ (buffer (now (out .exit)) r ≡ puts (buffer (now (out .entry)) at) (answerText record_number (reply answer)))
+        × (length (answerText record_number (reply answer)) ≤ 30) ⌝ }
 {
     let n = number(answer);
     if n == 0 {
@@ -70,8 +72,7 @@ pub(crate) fn records(
 ) -> Replayed
     requires { ⌜ (storeOf (now vol) (now pers) (now old) held txs ≡ fresh (length (now vol)))
         × (1 ≤ length (now vol)) × (length (now vol) ≤ 256) × (3 ≤ length (now trace)) × (length (now trace) ≤ 65536) ⌝ }
-    ensures { λ r. ⌜ (endingOf r (now (vol .exit)) (now (pers .exit)) (now (old .exit)) ≡ doneOf (length (now (vol .entry))) (scriptOf (now (trace .entry))) .ending)
-        × (buffer (now (out .exit)) (r .length) ≡ puts (buffer (now (out .entry)) 0) (textOf (doneOf (length (now (vol .entry))) (scriptOf (now (trace .entry)))))) ⌝ }
+    ensures { λ r. ⌜ Ends (doneOf (length (now (vol .entry))) (scriptOf (now (trace .entry)))) r (now (vol .exit)) (now (pers .exit)) (now (old .exit)) (now (out .entry)) (now (out .exit)) ⌝ }
 {
     let mut marks = held.marks;
     let mut glb = held.glb;

@@ -36,7 +36,8 @@ returns : tie.Need-returns
 returns c =
     let at-replay = c .before .before .before .before .before in
     let at-header = at-replay .before .before .before .before .before in
-    reports _ _ _ _ _ _ _ _ _ _ (at-header .header .ensures) refl (sym (length-take-le _ _ (few-words _ _ (at-header .header .ensures)))) (sym (length-take-le _ _ (few-words _ _ (at-header .header .ensures)))) (sym (length-take-le _ _ (few-words _ _ (at-header .header .ensures)))) (at-replay .replay .ensures .1)
+    let at-pre = at-header .before .before .before in
+    reports _ _ _ _ _ _ _ _ _ _ _ _ (at-replay .replay .result) (at-header .header .ensures) refl (sym (length-take-le _ _ (few-words _ _ (at-header .header .ensures)))) (sym (length-take-le _ _ (few-words _ _ (at-header .header .ensures)))) (sym (length-take-le _ _ (few-words _ _ (at-header .header .ensures)))) (at-pre .pre) (at-replay .replay .ensures)
 
 pub report-spec : {M : Type 1} → statement M
 report-spec =

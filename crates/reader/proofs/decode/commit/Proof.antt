@@ -21,7 +21,10 @@ add-t8 c = search needs
 
 returns-2 : tie.Need-returns-2
 unfolding ofKind
-returns-2 c = rw (c .before .before .before .before .pre, eq-eqb _ _ (c .before .before .if1 .left), c .wide .ensures, add-comm 2)
+returns-2 c =
+    let at-if1 = c .before .before in
+    let at-pre = at-if1 .before .before in
+    rw (at-pre .pre, eq-eqb _ _ (at-if1 .if1 .left), c .wide .ensures, add-comm 2)
 
 pub commit-spec : {M : Type 1} → statement M
 commit-spec = tie.close (tie.spec returns shared-slice-read-wide wide-requires add-t8 returns-2)

@@ -1,6 +1,4 @@
-use Rattle.text.specs.Buffer.{puts}
-use borrow.Author.Tests.{eq-eqb, ne-eqb}
-use mathlib.Core.Path.{sym}
+use Rattle.trace.proofs.Answers.{no-line, one-line}
 use borrow.Author.Needs.{needs}
 use Rattle.trace.proofs.records.put_answer_if.Statement.{statement}
 use Rattle.trace.proofs.records.put_answer_if.Tie as tie
@@ -9,8 +7,9 @@ number-requires : tie.Need-number-requires
 number-requires c κs = search needs
 
 returns : tie.Need-returns
-unfolding puts
-returns c = rw (sym (c .before .number .ensures), eq-eqb _ _ (c .if1 .taken))
+returns c =
+    let start = c .before .before .before in
+    no-line _ _ (start .args .record-number) (start .args .answer) _ (c .before .number .ensures) (c .if1 .taken)
 
 value-requires : tie.Need-value-requires
 value-requires c κs = search needs
@@ -23,11 +22,11 @@ same-length c = search needs
 
 returns-2 : tie.Need-returns-2
 returns-2 c =
-    let at-put-answer = c .before .before in
-    let at-value = at-put-answer .before in
-    let at-if1 = at-value .before .before in
-    let at-number = at-if1 .before in
-    rw (sym (at-number .number .ensures), sym (at-value .value .ensures), ne-eqb _ _ (at-if1 .if1 .left)) (at-put-answer .put-answer .ensures)
+    let at-value = c .before .before .before in
+    let at-if = at-value .before .before in
+    let start = at-if .before .before .before in
+    one-line _ _ (start .args .record-number) (start .args .answer) _ (at-if .before .number .ensures) (at-if .if1 .left) _ (at-value .value .ensures)
+    (at-value .value .ok) (start .pre) _ _ (c .before .before .put-answer .ensures)
 
 pub put-answer-if-spec : {M : Type 1} → statement M
 put-answer-if-spec =

@@ -1,4 +1,4 @@
-use Rattle.trace.proofs.Going.{Looping, looping-start, start-pers, start-old, rows-long, vol-long, pers-long, old-long, out-long, few-records, next-record, at-end, at-refusal, over, nearer, next-place, again-crash, again-kept}
+use Rattle.trace.proofs.Going.{Looping, looping-start, start-pers, start-old, rows-long, vol-long, pers-long, old-long, out-long, few-records, next-record, next-number, at-end, refusal-small, at-refusal, over, nearer, next-place, again-crash, again-kept}
 use lib.ListN.{length}
 use mathlib.Core.Path.{refl, sym, _∙_}
 use borrow.Author.Needs.{needs}
@@ -49,7 +49,10 @@ counted-requires c κs =
     few-records (at-loop .loop .inv)
 
 put-answer-if-requires : tie.Need-put-answer-if-requires Inv-loop μ-loop
-put-answer-if-requires c κs = search needs
+put-answer-if-requires c κs =
+    let at-counted = c .before in
+    let at-loop = at-counted .before .before .before .before .before .before .before .before .before .before .before .before .before .before .before .before .before .before .before in
+    next-number (at-loop .loop .inv) _ _ _ (at-counted .counted .ensures)
 
 add-at : tie.Need-add-at Inv-loop μ-loop
 add-at c =
@@ -93,7 +96,7 @@ loop-again c =
     let at-item = at-slot .before .before in
     let at-item-at = at-item .before .before in
     let at-loop = at-item-at .before in
-    again-crash (at-loop .loop .inv) (at-item-at .item-at .ensures) (at-item .item .given .1) _ (at-carry-out .carry-out .result) (at-slot .slot .ensures .0) (at-carry-out .carry-out .ensures) (at-counted .counted .ensures) (at-put-answer-if .put-answer-if .ensures) (sym (at-crashes-in .crashes-in .ensures) ∙ at-if1 .if1 .taken) (c .crash-txs .ensures)
+    again-crash (at-loop .loop .inv) (at-item-at .item-at .ensures) (at-item .item .given .1) _ (at-carry-out .carry-out .result) (at-slot .slot .ensures .0) (at-carry-out .carry-out .ensures) (at-counted .counted .ensures) (at-put-answer-if .put-answer-if .ensures .0) (at-put-answer-if .put-answer-if .ensures .1) (sym (at-crashes-in .crashes-in .ensures) ∙ at-if1 .if1 .taken) (c .crash-txs .ensures)
 
 loop-less-2 : tie.Need-loop-less-2 Inv-loop μ-loop
 loop-less-2 c =
@@ -112,7 +115,7 @@ loop-again-2 c =
     let at-item = at-slot .before .before in
     let at-item-at = at-item .before .before in
     let at-loop = at-item-at .before in
-    again-kept (at-loop .loop .inv) (at-item-at .item-at .ensures) (at-item .item .given .1) _ (at-carry-out .carry-out .result) (at-slot .slot .ensures .0) (at-carry-out .carry-out .ensures) (at-counted .counted .ensures) (at-put-answer-if .put-answer-if .ensures) (λ e. c .if1 .left (at-crashes-in .crashes-in .ensures ∙ e)) refl
+    again-kept (at-loop .loop .inv) (at-item-at .item-at .ensures) (at-item .item .given .1) _ (at-carry-out .carry-out .result) (at-slot .slot .ensures .0) (at-carry-out .carry-out .ensures) (at-counted .counted .ensures) (at-put-answer-if .put-answer-if .ensures .0) (at-put-answer-if .put-answer-if .ensures .1) (λ e. c .if1 .left (at-crashes-in .crashes-in .ensures ∙ e)) refl
 
 enum-known-item-2 : tie.Need-enum-known-item-2 Inv-loop μ-loop
 enum-known-item-2 c = search needs
@@ -155,7 +158,7 @@ returns c =
     let at-item2 = at-stopped-at .before .before .before in
     let at-item-at = at-item2 .before .before in
     let at-loop = at-item-at .before in
-    over (at-loop .loop .inv) (at-refusal (at-loop .loop .inv) (at-item-at .item-at .ensures) (at-item2 .item2 .given .1)) (at-stopped-at .stopped-at .ensures) (at-ended .ended .ensures .0) (at-ended .ended .ensures .1)
+    over (at-loop .loop .inv) (refusal-small (at-loop .loop .inv) (at-item-at .item-at .ensures) (at-item2 .item2 .given .1)) (at-refusal (at-loop .loop .inv) (at-item-at .item-at .ensures) (at-item2 .item2 .given .1)) (at-stopped-at .stopped-at .ensures) (at-ended .ended .ensures .0) (at-ended .ended .ensures .1)
 
 enum-told : tie.Need-enum-told Inv-loop μ-loop
 enum-told c = search needs
@@ -192,7 +195,7 @@ returns-2 c =
     let at-enum-told = at-ended2 .before .before in
     let at-item-at = at-enum-told .before .before in
     let at-loop = at-item-at .before in
-    over (at-loop .loop .inv) (at-end (at-loop .loop .inv) (at-item-at .item-at .ensures) (at-enum-told .enum-told .given .1)) refl (at-ended2 .ended2 .ensures .0) (at-ended2 .ended2 .ensures .1)
+    over (at-loop .loop .inv) (omega arith) (at-end (at-loop .loop .inv) (at-item-at .item-at .ensures) (at-enum-told .enum-told .given .1)) refl (at-ended2 .ended2 .ensures .0) (at-ended2 .ended2 .ensures .1)
 
 pub records-spec : {M : Type 1} → statement M
 records-spec =
