@@ -15,10 +15,10 @@ use Rattle.reader.specs.Trace.{wordsOf}
 use Rattle.reader.proofs.Scripts.{header-few, header-sound}
 use Rattle.text.specs.Buffer.{Buffer, buffer, puts}
 use Rattle.text.proofs.Laws.{puts-fits}
-use Rattle.trace.specs.declared.Replayed.{Replayed}
-use Rattle.trace.specs.Replay.{replay, textOf, printed}
-use Rattle.trace.specs.Ends.{longest, Ends}
-use Rattle.trace.proofs.Printed.{prints}
+use Rattle.day.specs.declared.Replayed.{Replayed}
+use Rattle.day.specs.Replay.{replay, textOf, printed}
+use Rattle.day.specs.Ends.{longest, Ends}
+use Rattle.day.proofs.Printed.{prints}
 
 pub few-words : (bs : List ℕ) (h : Header) → h ≡ headerOf bs → h .words ≤ 256
 few-words bs h e = let z = header-few bs in rw e z

@@ -11,7 +11,7 @@ ghost use mathlib.Core.Path.{_≡_};
 ghost use mathlib.Core.List.{_++_};
 ghost use lib.ListN.{length, drop};
 ghost use Rattle.io.specs.Counts.{Counts};
-ghost use Rattle.trace.specs.Replay.{printed};
+ghost use Rattle.day.specs.Replay.{printed};
 
 // Puts what is printed of a trace at the start of out, which has room for any, and gives its length.
 fn report(trace: &[u8], out: &mut [u8]) -> usize

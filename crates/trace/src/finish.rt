@@ -1,6 +1,6 @@
 // The end of a replay, and its last lines.
-use crate::Replayed;
-use crate::Totals;
+use day::Replayed;
+use day::Totals;
 use dtml::Tx;
 use machine::Held;
 use text::put_stop;
@@ -10,7 +10,7 @@ ghost use mathlib.Core.Path.{_≡_};
 ghost use lib.Dec.{eqb};
 ghost use Rattle.bits.specs.Marks.{pick};
 ghost use Rattle.text.specs.Buffer.{buffer, puts};
-ghost use Rattle.trace.specs.Replay.{totals as totalsFrom, stopText, endText};
+ghost use Rattle.day.specs.Replay.{totals as totalsFrom, stopText, endText};
 
 // Before the first record.
 pub(crate) fn nothing() -> Totals

@@ -5,6 +5,7 @@ mod records;
 use crate::finish::ended;
 use crate::finish::nothing;
 use crate::records::records;
+use day::Replayed;
 use dtml::Tx;
 use machine::Held;
 use reader::trace::header;
@@ -14,29 +15,8 @@ ghost use mathlib.Core.List.{[], _∷_};
 ghost use lib.Dec.{eqb};
 ghost use Rattle.dtml.specs.Checks.{anyOf};
 ghost use Rattle.machine.specs.Given.{storeOf};
-ghost use Rattle.trace.specs.Replay.{replay as replayed};
-ghost use Rattle.trace.specs.Ends.{Ends};
-
-// The numbers of the T line: records done, crashes, recovery lines carried out, words entered in transactions that a crash cut off before
-// their E2, transactions committed.
-pub struct Totals {
-    pub records: u64,
-    pub crashes: u64,
-    pub lines: u64,
-    pub cut: u64,
-    pub committed: u64,
-}
-
-// How a replay ends: the refusal that stopped it, or 0, with the number of the record refused; the T line's numbers; the length of the text;
-// and the store beside its rows.
-pub struct Replayed {
-    pub refusal: u64,
-    pub number: u64,
-    pub totals: Totals,
-    pub length: usize,
-    pub held: Held,
-    pub txs: [Tx; 64],
-}
+ghost use Rattle.day.specs.Replay.{replay as replayed};
+ghost use Rattle.day.specs.Ends.{Ends};
 
 // Some row is not as long as the header's N; vol, pers and old are the rows' lengths.
 fn unfit_for(n: usize, vol: usize, pers: usize, old: usize) -> bool

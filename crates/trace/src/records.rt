@@ -1,9 +1,9 @@
 // The records of a trace, done one by one.
-use crate::Replayed;
-use crate::Totals;
 use crate::finish::ended;
 use crate::finish::nothing;
 use crate::finish::stopped_at;
+use day::Replayed;
+use day::Totals;
 use doing::carry_out;
 use doing::slot;
 use dtml::Answer;
@@ -31,8 +31,8 @@ ghost use Rattle.machine.specs.Given.{storeOf};
 ghost use Rattle.reader.specs.Said.{callOf};
 ghost use Rattle.reader.specs.Trace.{scriptOf};
 ghost use Rattle.text.specs.Buffer.{buffer, puts};
-ghost use Rattle.trace.specs.Replay.{answerText, done as doneOf};
-ghost use Rattle.trace.specs.Ends.{Ends, counted as countedOf, Few};
+ghost use Rattle.day.specs.Replay.{answerText, done as doneOf};
+ghost use Rattle.day.specs.Ends.{Ends, counted as countedOf, Few};
 
 // The numbers of the T line after one record more, which found recovery and the marks so.
 fn counted(totals: Totals, recovery: Recovery, marks: Marks, act: Act, answer: Answer) -> Totals

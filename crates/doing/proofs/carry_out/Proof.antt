@@ -1,7 +1,8 @@
-use Rattle.doing.proofs.Carries.{nobody, on-one, on-none}
-use Rattle.reader.specs.Said.{callOf}
+-- `doing::carry_out` meets its contract: each arm is the call's own promise, put beside what the call does not touch.
 use mathlib.Core.Path.{refl, ap}
 use borrow.Author.Needs.{needs}
+use Rattle.doing.proofs.Carries.{nobody, on-one, on-none}
+use Rattle.reader.specs.Said.{callOf}
 use Rattle.doing.proofs.carry_out.Statement.{statement}
 use Rattle.doing.proofs.carry_out.Tie as tie
 

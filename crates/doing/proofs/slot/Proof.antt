@@ -1,6 +1,7 @@
-use borrow.Author.Tests.{le-leb, lt-leb}
-use mathlib.Core.Path.{sym}
+-- `doing::slot` meets its contract: an identifier below 64 is its own place.
 use native.Mathlib.Omega.{arith}
+use mathlib.Core.Path.{sym}
+use borrow.Author.Tests.{le-leb, lt-leb}
 use borrow.Author.Needs.{needs}
 use Rattle.doing.proofs.slot.Statement.{statement}
 use Rattle.doing.proofs.slot.Tie as tie

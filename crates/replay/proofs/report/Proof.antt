@@ -1,7 +1,8 @@
-use Rattle.replay.proofs.Reports.{few-words, reports}
-use lib.Seq.{length-take-le}
+-- `replay::report` meets its contract: the rows lent are as long as the header says, and the buffer has room for the text.
 use mathlib.Core.Path.{refl, sym}
 use borrow.Author.Needs.{needs}
+use lib.Seq.{length-take-le}
+use Rattle.replay.proofs.Reports.{few-words, reports}
 use Rattle.replay.proofs.report.Statement.{statement}
 use Rattle.replay.proofs.report.Tie as tie
 

@@ -1,5 +1,6 @@
-use borrow.Author.Tests.{eq-eqb, ne-eqb}
+-- `tally::committed_in` meets its contract: the test is the definition's, on the answer's number.
 use mathlib.Core.Path.{sym}
+use borrow.Author.Tests.{eq-eqb, ne-eqb}
 use borrow.Author.Needs.{needs}
 use Rattle.tally.proofs.committed_in.Statement.{statement}
 use Rattle.tally.proofs.committed_in.Tie as tie

@@ -1,3 +1,4 @@
+-- `tally::cut_in` meets its contract: only a crash cuts words off.
 use borrow.Author.Needs.{needs}
 use Rattle.tally.proofs.cut_in.Statement.{statement}
 use Rattle.tally.proofs.cut_in.Tie as tie

@@ -1,3 +1,4 @@
+-- `tally::cut_unless` meets its contract: the words in the log are counted by the marks' own promise.
 use borrow.Author.Needs.{needs}
 use Rattle.tally.proofs.cut_unless.Statement.{statement}
 use Rattle.tally.proofs.cut_unless.Tie as tie

@@ -1,3 +1,4 @@
+-- `tally::lines_in` meets its contract: only a recovery call that was not refused is a line.
 use borrow.Author.Needs.{needs}
 use Rattle.tally.proofs.lines_in.Statement.{statement}
 use Rattle.tally.proofs.lines_in.Tie as tie

@@ -1,6 +1,7 @@
+-- `trace::replay` meets its contract: the header's refusal, the rows' refusal, or the records from a fresh store.
 use mathlib.Core.List.{[]}
-use Rattle.trace.proofs.Whole.{header-stops, rows-stop, fresh-long, fresh-rows, records-so}
 use borrow.Author.Needs.{needs}
+use Rattle.day.proofs.Whole.{header-stops, rows-stop, fresh-long, fresh-rows, records-so}
 use Rattle.trace.proofs.replay.Statement.{statement}
 use Rattle.trace.proofs.replay.Tie as tie
 

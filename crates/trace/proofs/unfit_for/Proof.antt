@@ -1,5 +1,6 @@
-use Rattle.dtml.proofs.Fit.{last}
+-- `trace::unfit_for` meets its contract: each test is the definition's.
 use borrow.Author.Tests.{eq-eqb, ne-eqb}
+use Rattle.dtml.proofs.Fit.{last}
 use Rattle.trace.proofs.unfit_for.Statement.{statement}
 use Rattle.trace.proofs.unfit_for.Tie as tie
 

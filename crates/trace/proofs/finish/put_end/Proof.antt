@@ -1,5 +1,6 @@
-use Rattle.text.proofs.Laws.{puts-then}
+-- `trace::finish::put_end` meets its contract: one text put after another is both.
 use borrow.Author.Needs.{needs}
+use Rattle.text.proofs.Laws.{puts-then}
 use Rattle.trace.proofs.finish.put_end.Statement.{statement}
 use Rattle.trace.proofs.finish.put_end.Tie as tie
 

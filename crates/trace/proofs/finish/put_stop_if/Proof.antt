@@ -1,6 +1,7 @@
-use Rattle.text.specs.Buffer.{puts}
+-- `trace::finish::put_stop_if` meets its contract: no refusal, no line.
 use borrow.Author.Tests.{eq-eqb, ne-eqb}
 use borrow.Author.Needs.{needs}
+use Rattle.text.specs.Buffer.{puts}
 use Rattle.trace.proofs.finish.put_stop_if.Statement.{statement}
 use Rattle.trace.proofs.finish.put_stop_if.Tie as tie
 

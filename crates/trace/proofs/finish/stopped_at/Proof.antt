@@ -1,3 +1,4 @@
+-- `trace::finish::stopped_at` meets its contract: the test is the definition's.
 use borrow.Author.Tests.{eq-eqb, ne-eqb}
 use borrow.Author.Needs.{needs}
 use Rattle.trace.proofs.finish.stopped_at.Statement.{statement}

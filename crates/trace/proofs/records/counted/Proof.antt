@@ -1,9 +1,10 @@
-use Rattle.trace.proofs.Going.{crashes-one, lines-one, cut-marks, committed-one}
-use Rattle.dtml.specs.Table.{reply}
-use Rattle.trace.specs.Ends.{counted}
-use Rattle.bits.proofs.Laws.{laws}
+-- `trace::records::counted` meets its contract: each sum is the definition's, and none wraps, since the numbers are no larger than the records are many.
 use native.Mathlib.Omega.{arith}
 use borrow.Author.Needs.{needs}
+use Rattle.day.proofs.Going.{crashes-one, lines-one, cut-marks, committed-one}
+use Rattle.dtml.specs.Table.{reply}
+use Rattle.day.specs.Ends.{counted}
+use Rattle.bits.proofs.Laws.{laws}
 use Rattle.trace.proofs.records.counted.Statement.{statement}
 use Rattle.trace.proofs.records.counted.Tie as tie
 

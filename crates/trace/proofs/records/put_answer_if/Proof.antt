@@ -1,5 +1,6 @@
-use Rattle.trace.proofs.Answers.{no-line, one-line}
+-- `trace::records::put_answer_if` meets its contract: an answer 0 has no line; any other has one, of thirty bytes at the most.
 use borrow.Author.Needs.{needs}
+use Rattle.day.proofs.Answers.{no-line, one-line}
 use Rattle.trace.proofs.records.put_answer_if.Statement.{statement}
 use Rattle.trace.proofs.records.put_answer_if.Tie as tie
 

@@ -1,9 +1,11 @@
-use Rattle.trace.proofs.Going.{Looping, looping-start, start-pers, start-old, rows-long, vol-long, pers-long, old-long, out-long, few-records, next-record, next-number, at-end, refusal-small, at-refusal, over, nearer, next-place, again-crash, again-kept}
-use lib.ListN.{length}
+-- `trace::records::records` meets its contract. The loop's invariant: run from here, the rest of the trace ends as the whole does from fresh (`Looping`).
+-- The measure is the bytes that are left.
+use Prim.Native.Nat.{_-_}
+use native.Mathlib.Omega.{arith}
 use mathlib.Core.Path.{refl, sym, _∙_}
 use borrow.Author.Needs.{needs}
-use native.Mathlib.Omega.{arith}
-use Prim.Native.Nat.{_-_}
+use lib.ListN.{length}
+use Rattle.day.proofs.Going.{Looping, looping-start, start-pers, start-old, rows-long, vol-long, pers-long, old-long, out-long, few-records, next-record, next-number, at-end, refusal-small, at-refusal, over, nearer, next-place, again-crash, again-kept}
 use Rattle.trace.proofs.records.records.Statement.{statement}
 use Rattle.trace.proofs.records.records.Tie as tie
 

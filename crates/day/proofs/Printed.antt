@@ -14,8 +14,8 @@ use Rattle.dtml.proofs.Demands.{recovery-cost}
 use Rattle.reader.specs.Said.{headerOf}
 use Rattle.reader.specs.Trace.{wordsOf, headerChecks, scriptOf}
 use Rattle.reader.proofs.Scripts.{header-sound, header-taken, header-refused}
-use Rattle.trace.specs.Replay.{Replay, stopped, done, unfitFor, replay, textOf, printed}
-use Rattle.trace.specs.Cost.{PrintedCost}
+use Rattle.day.specs.Replay.{Replay, stopped, done, unfitFor, replay, textOf, printed}
+use Rattle.day.specs.Cost.{PrintedCost}
 
 abbrev Cheap : Replay → Type 0
 Cheap p = p .ending .totals .lines ≤ 5 * p .ending .totals .cut + 4 * p .ending .totals .crashes

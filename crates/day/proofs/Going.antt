@@ -41,10 +41,10 @@ use Rattle.doing.specs.declared.Carried.{Carried}
 use Rattle.doing.specs.Carrying.{slotOf, carry, Left, leftOf, callTxs, putBack}
 use Rattle.doing.proofs.Carries.{slot-low, carries}
 use Rattle.tally.specs.Tally.{committedIn}
-use Rattle.trace.specs.declared.Totals.{Totals}
-use Rattle.trace.specs.Replay.{answers, answered, totals, totalsOf, Ending, done, answerText, answerLines, stopText, totalsText, endText, textOf}
-use Rattle.trace.specs.declared.Replayed.{Replayed}
-use Rattle.trace.specs.Ends.{endingOf, longest, Ends, counted, Few}
+use Rattle.day.specs.declared.Totals.{Totals}
+use Rattle.day.specs.Replay.{answers, answered, totals, totalsOf, Ending, done, answerText, answerLines, stopText, totalsText, endText, textOf}
+use Rattle.day.specs.declared.Replayed.{Replayed}
+use Rattle.day.specs.Ends.{endingOf, longest, Ends, counted, Few}
 
 abbrev pub restOf : List ℕ → ℕ → Script
 restOf bs at = scriptFrom (drop at bs)

@@ -11,7 +11,7 @@ use Rattle.dtml.specs.Table.{reply}
 use Rattle.text.specs.Buffer.{buffer, puts}
 use Rattle.text.specs.Text.{answerLine}
 use Rattle.text.proofs.Laws.{answer-short}
-use Rattle.trace.specs.Replay.{answerText}
+use Rattle.day.specs.Replay.{answerText}
 
 two-digits : (a : Answer) → reply a .number < 100
 two-digits (Taken n) = omega arith

@@ -12,7 +12,7 @@ use Rattle.dtml.specs.Calls.{call}
 use Rattle.dtml.specs.Demands.{after}
 use Rattle.reader.specs.Trace.{wordsOf, headerChecks, Script, scriptOf}
 use Rattle.text.specs.Text.{answerLine, stopLine, totalsLine}
-use Rattle.trace.specs.declared.Totals.{Totals}
+use Rattle.day.specs.declared.Totals.{Totals}
 
 -- ---- the history of records done
 

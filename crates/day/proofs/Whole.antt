@@ -20,11 +20,11 @@ use Rattle.reader.specs.Said.{headerOf}
 use Rattle.reader.specs.Trace.{wordsOf, scriptOf}
 use Rattle.reader.proofs.Scripts.{header-sound, header-taken, header-refused, header-number}
 use Rattle.text.specs.Buffer.{buffer, puts}
-use Rattle.trace.specs.declared.Totals.{Totals}
-use Rattle.trace.specs.declared.Replayed.{Replayed}
-use Rattle.trace.specs.Replay.{totals, Replay, stopped, done, replay, answerLines, endText, textOf}
-use Rattle.trace.specs.Ends.{endingOf, longest, Ends, Few}
-use Rattle.trace.proofs.Going.{end-short}
+use Rattle.day.specs.declared.Totals.{Totals}
+use Rattle.day.specs.declared.Replayed.{Replayed}
+use Rattle.day.specs.Replay.{totals, Replay, stopped, done, replay, answerLines, endText, textOf}
+use Rattle.day.specs.Ends.{endingOf, longest, Ends, Few}
+use Rattle.day.proofs.Going.{end-short}
 
 -- a test over three rows, and the records after them
 some-unfit : (a b c d : Bool) → anyOf (a ∷ b ∷ c ∷ []) ≡ true → anyOf (a ∷ b ∷ c ∷ d ∷ []) ≡ true

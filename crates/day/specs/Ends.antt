@@ -10,9 +10,9 @@ use Rattle.dtml.specs.Counting.{crashesIn, linesIn, cutIn}
 use Rattle.machine.specs.Given.{storeOf}
 use Rattle.text.specs.Buffer.{buffer, puts}
 use Rattle.tally.specs.Tally.{committedIn}
-use Rattle.trace.specs.declared.Totals.{Totals}
-use Rattle.trace.specs.declared.Replayed.{Replayed}
-use Rattle.trace.specs.Replay.{Ending, Replay, totals, textOf}
+use Rattle.day.specs.declared.Totals.{Totals}
+use Rattle.day.specs.declared.Replayed.{Replayed}
+use Rattle.day.specs.Replay.{Ending, Replay, totals, textOf}
 
 abbrev pub endingOf : Replayed → List ℕ → List ℕ → List ℕ → Ending
 endingOf r vol pers old =

@@ -2,7 +2,7 @@
 use Prim.Native.Nat.{ℕ, _+_, _*_, _≤_}
 use mathlib.Core.List.{List}
 use Rattle.dtml.specs.Store.{Store}
-use Rattle.trace.specs.Replay.{replay}
+use Rattle.day.specs.Replay.{replay}
 
 -- The T line's recovery lines are at most five for each of its entered words, plus four for each of its crashes, whatever the trace.
 abbrev pub PrintedCost : Type 0
