@@ -44,7 +44,8 @@ use Rattle.tally.specs.Tally.{committedIn}
 use Rattle.day.specs.declared.Totals.{Totals}
 use Rattle.day.specs.Replay.{answers, answered, totals, totalsOf, Ending, done, answerText, answerLines, stopText, totalsText, endText, textOf}
 use Rattle.day.specs.declared.Replayed.{Replayed}
-use Rattle.day.specs.Ends.{endingOf, longest, Ends, counted, Few}
+use Rattle.day.specs.Ends.{endingOf, longest, Ends}
+use Rattle.day.specs.Counted.{counted, Few}
 
 abbrev pub restOf : List ℕ → ℕ → Script
 restOf bs at = scriptFrom (drop at bs)

@@ -23,7 +23,8 @@ use Rattle.text.specs.Buffer.{buffer, puts}
 use Rattle.day.specs.declared.Totals.{Totals}
 use Rattle.day.specs.declared.Replayed.{Replayed}
 use Rattle.day.specs.Replay.{totals, Replay, stopped, done, replay, answerLines, endText, textOf}
-use Rattle.day.specs.Ends.{endingOf, longest, Ends, Few}
+use Rattle.day.specs.Ends.{endingOf, longest, Ends}
+use Rattle.day.specs.Counted.{Few}
 use Rattle.day.proofs.Going.{end-short}
 
 -- a test over three rows, and the records after them

@@ -1,3 +1,4 @@
 pub mod Replay
 pub mod Cost
 pub mod Ends
+pub mod Counted

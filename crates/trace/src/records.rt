@@ -32,7 +32,8 @@ ghost use Rattle.reader.specs.Said.{callOf};
 ghost use Rattle.reader.specs.Trace.{scriptOf};
 ghost use Rattle.text.specs.Buffer.{buffer, puts};
 ghost use Rattle.day.specs.Replay.{answerText, done as doneOf};
-ghost use Rattle.day.specs.Ends.{Ends, counted as countedOf, Few};
+ghost use Rattle.day.specs.Ends.{Ends};
+ghost use Rattle.day.specs.Counted.{counted as countedOf, Few};
 
 // The numbers of the T line after one record more, which found recovery and the marks so.
 fn counted(totals: Totals, recovery: Recovery, marks: Marks, act: Act, answer: Answer) -> Totals

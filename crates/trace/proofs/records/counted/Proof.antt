@@ -3,7 +3,7 @@ use native.Mathlib.Omega.{arith}
 use borrow.Author.Needs.{needs}
 use Rattle.day.proofs.Going.{crashes-one, lines-one, cut-marks, committed-one}
 use Rattle.dtml.specs.Table.{reply}
-use Rattle.day.specs.Ends.{counted}
+use Rattle.day.specs.Counted.{counted}
 use Rattle.bits.proofs.Laws.{laws}
 use Rattle.trace.proofs.records.counted.Statement.{statement}
 use Rattle.trace.proofs.records.counted.Tie as tie

@@ -1,0 +1,71 @@
+-- Document 01, "Worked histories". N is 4 and the store fresh unless said.
+use Prim.Native.Nat.{ℕ}
+use mathlib.Core.Path.{_≡_}
+use mathlib.Core.Bool.{true}
+use mathlib.Core.List.{List, [], _∷_, _++_}
+use lib.ListN.{replicate}
+use Rattle.dtml.specs.Table.{Reply, says as answer}
+use Rattle.dtml.specs.Checks.{begin, read, write, commit, step, flush, crash, recover, Call, on, sys}
+use Rattle.reader.specs.Trace.{scriptOf}
+use Rattle.cases.specs.Cases.{Claim, says, lines, word, logged, bound, History, allHold}
+
+abbrev history : ℕ → ℕ → List Call → List Claim → History
+history name words calls claims = record { name = name; words = words; calls = calls; claims = claims }
+
+-- ---- schedules
+
+abbrev steps : ℕ → ℕ → List Call
+steps t n = replicate n (on t step)
+
+-- begins, and does B1 and B2
+abbrev begun : ℕ → List Call
+begun t = on t begin ∷ steps t 2
+
+-- writes v to word w, a first word of a writer: seven lines
+abbrev wrote : ℕ → ℕ → ℕ → List Call
+wrote t w v = on t (write w v) ∷ steps t 7
+
+abbrev recovers : ℕ → List Call
+recovers n = replicate n (sys recover)
+
+-- 0, as often as said
+abbrev noughts : ℕ → List Reply
+noughts n = replicate n (answer 0 0)
+
+-- ---- the trace of document 01, with and without its flush
+
+abbrev opening : List ℕ
+opening =
+    1 ∷ 0 ∷ 4 ∷ 0 ∷ 2 ∷ 1 ∷ 3 ∷ 0 ∷ 2 ∷ 5 ∷ 3 ∷ 0 ∷ 2 ∷ 5 ∷ 3 ∷ 0 ∷ 7 ∷ 3 ∷ 3 ∷ 2 ∷ 0 ∷ 0 ∷ 0 ∷ 9 ∷ 0 ∷ 2 ∷ 5 ∷ 3 ∷ 0 ∷ 2 ∷ 5 ∷ 3 ∷ 0 ∷ 2 ∷ 5 ∷ 3 ∷ 0
+    ∷ 2 ∷ 5 ∷ 3 ∷ 0 ∷ 2 ∷ 5 ∷ 3 ∷ 0 ∷ 2 ∷ 5 ∷ 3 ∷ []
+
+abbrev flushed : List ℕ
+flushed = 0 ∷ 2 ∷ 6 ∷ 2 ∷ []
+
+abbrev closing : List ℕ
+closing =
+    0 ∷ 1 ∷ 7 ∷ 0 ∷ 1 ∷ 8 ∷ 0 ∷ 1 ∷ 8 ∷ 0 ∷ 1 ∷ 8 ∷ 0 ∷ 1 ∷ 8 ∷ 0 ∷ 1 ∷ 8 ∷ 0 ∷ 1 ∷ 8 ∷ 0 ∷ 1 ∷ 8 ∷ []
+
+-- ---- the table
+
+unfoldable pub table : List History
+table =
+    history 1 4 (begun 0) (says 0 (answer 0 0 ∷ answer 0 0 ∷ answer 1 0 ∷ []) ∷ [])
+    ∷ history 2 4 (on 63 begin ∷ on 64 begin ∷ []) (says 0 (answer 0 0 ∷ answer 11 0 ∷ []) ∷ [])
+    ∷ history 3 4 (begun 0 ++ (on 0 (read 3) ∷ []) ++ begun 1 ++ (on 1 (read 4) ∷ [])) (says 3 (answer 0 0 ∷ []) ∷ says 7 (answer 10 0 ∷ []) ∷ [])
+    ∷ history 4 4 (scriptOf (opening ++ flushed ++ closing) .calls) (word 2 0 ∷ logged 0 ∷ lines 7 ∷ [])
+    ∷ history 5 4 (scriptOf (opening ++ closing) .calls) (word 2 0 ∷ logged 0 ∷ [])
+    ∷ history 6 4 (begun 0 ++ wrote 0 1 5 ++ (on 0 commit ∷ steps 0 2) ++ (sys crash ∷ recovers 2)) (says 14 (answer 0 0 ∷ answer 0 0 ∷ answer 6 0 ∷ []) ∷ lines 2 ∷ word 1 5 ∷ [])
+    ∷ history 7 4 (begun 0 ++ wrote 0 1 5 ++ (on 0 commit ∷ steps 0 1) ++ (sys crash ∷ recovers 7)) (says 14 (noughts 6 ++ (answer 6 0 ∷ [])) ∷ lines 7 ∷ word 1 0 ∷ [])
+    ∷ history 8 4 (begun 0 ++ begun 1 ++ (on 1 (write 0 5) ∷ steps 1 2) ++ (on 0 (read 0) ∷ steps 0 2)) (says 10 (answer 0 0 ∷ answer 5 0 ∷ []) ∷ [])
+    ∷ history 9 4 (begun 0 ++ begun 1 ++ (on 1 (write 0 5) ∷ steps 1 1) ++ (on 0 (read 0) ∷ steps 0 2) ++ steps 1 1) (says 9 (answer 0 0 ∷ answer 2 0 ∷ []) ∷ [])
+    ∷ history 10 4 (begun 0 ++ begun 1 ++ (on 0 (write 0 5) ∷ on 1 (write 1 6) ∷ steps 0 2) ++ steps 1 2) (says 10 (answer 0 0 ∷ answer 5 0 ∷ []) ∷ [])
+    ∷ history 11 4 (begun 0 ++ (on 0 (write 0 5) ∷ steps 0 2) ++ begun 1 ++ steps 0 5 ++ (on 0 commit ∷ steps 0 3) ++ steps 1 2) (says 7 (answer 0 0 ∷ answer 0 0 ∷ []) ∷ says 17 (answer 4 0 ∷ answer 0 0 ∷ answer 1 0 ∷ []) ∷ [])
+    ∷ history 12 4 (sys recover ∷ []) (says 0 (answer 16 0 ∷ []) ∷ [])
+    ∷ history 13 4 (begun 0 ++ wrote 0 1 5 ++ (sys crash ∷ recovers 4) ++ (sys crash ∷ recovers 7)) (lines 11 ∷ bound 13 ∷ word 1 0 ∷ [])
+    ∷ history 14 4 ((sys crash ∷ []) ++ (on 0 begin ∷ []) ++ recovers 2 ++ (on 0 begin ∷ [])) (says 1 (answer 12 0 ∷ []) ∷ says 3 (answer 6 0 ∷ answer 0 0 ∷ []) ∷ [])
+    ∷ []
+
+-- P1 to P14 hold.
+abbrev pub WorkedHistories : Type 0
+WorkedHistories = allHold table ≡ true
