@@ -4,7 +4,7 @@ use mathlib.Core.Bool.{Bool, true, false}
 use mathlib.Core.List.{List, [], _∷_}
 use lib.ListN.{length, getD, drop, take}
 use lib.Dec.{eqb}
-use Rattle.bits.specs.Marks.{pick, countOf}
+use Rattle.bits.specs.Marks.{countOf}
 use Rattle.dtml.specs.Table.{Reply}
 use Rattle.dtml.specs.Store.{fresh}
 use Rattle.dtml.specs.Checks.{Call}
