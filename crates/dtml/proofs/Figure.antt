@@ -1,9 +1,12 @@
 -- The machine's lines are those of the figure: each is one of its lines, and no other outcome is.
-use Prim.Native.Nat.{ℕ, _+_}
+use Prim.Native.Nat.{ℕ, _+_, _≤_}
+use native.Mathlib.Omega.{arith}
 use borrow.Author.Tests.{eqb-true, eqb-false, eq-eqb, ne-eqb, not-true, not-false, leb-true}
 use mathlib.Core.Path.{_≡_, refl, sym, ap, _∙_}
 use mathlib.Core.Bool.{Bool, true, false, not}
 use mathlib.Core.Logic.{_⊎_, inl, inr}
+use mathlib.Core.List.{List, [], _∷_}
+use lib.ListN.{set}
 use lib.Dec.{eqb, leb}
 use Rattle.bits.specs.Marks.{pick, isMarked, countOf}
 use Rattle.dtml.specs.declared.Phase.{Phase}
@@ -11,14 +14,14 @@ use Rattle.dtml.specs.declared.Phase.the-variants.{Fresh, Ready, Committ
 use Rattle.dtml.specs.declared.Recovery.{Recovery}
 use Rattle.dtml.specs.declared.Recovery.the-variants.{Idle, C1, C2, C3, C4, C5, C6}
 use Rattle.dtml.specs.Table.{says}
-use Rattle.dtml.specs.Store.{Memory, memory, recordAt, tx}
+use Rattle.dtml.specs.Store.{Memory, Store, memory, store, recordAt, tx}
 use Rattle.dtml.specs.Lines.{Did, did, Healed, lineAt, recoveryLine, even, stage, anyMark, flushOf}
-use Rattle.dtml.specs.Checks.{checks, isAtLine, notIdle, on, step, sys, recover}
-use Rattle.dtml.specs.Calls.{ask, system, act, call, refused, placed, settled}
+use Rattle.dtml.specs.Checks.{Check, first, checks, Call, isAtLine, notIdle, on, step, sys, recover}
+use Rattle.dtml.specs.Calls.{ask, system, Outcome, act, call, refused}
 use Rattle.dtml.specs.Figure1.{Line, b1, b2-even, b2-odd, r1, r2-same, r2-other, w1-even, w1-odd, w2-same, w2-other, w3, w4-in, w4-out, w5, w6, w7, e1-odd, e1-even, e2, e3, RecoveryLine, c1-some, c1-none, c2, c3, c4, c5, c6}
-use Rattle.dtml.specs.Demands.{Refused, OneLine, OneRecoveryLine}
+use Rattle.dtml.specs.Demands.{Applies, Refused, OneLine, OneRecoveryLine}
 use Rattle.dtml.proofs.Words.{true-not-false, pick-case, even-true, even-false, is-even, is-odd}
-use Rattle.dtml.proofs.Worlds.{Passes, call-cases}
+use Rattle.dtml.proofs.Worlds.{Passes, allFrom, all-refuse}
 
 in-figure : (m : Memory) (loc : ℕ) (p : Phase) → isAtLine (stage p) ≡ true → Line m loc p (lineAt m loc p)
 unfolding lineAt flushOf
@@ -108,9 +111,45 @@ recovery-only-figure m r h (c4 w v e q) = q ∙ ap (recoveryLine m) (sym e)
 recovery-only-figure m r h (c5 w v e q) = q ∙ ap (recoveryLine m) (sym e)
 recovery-only-figure m r h (c6 e q) = q ∙ ap (recoveryLine m) (sym e)
 
+-- ---- refused for a reason, or carried out
+
+reasons : {A : Type 0} (cs : List Check) (refuse : ℕ → A) (x : A)
+    → ((k : ℕ) × Applies cs k × (first cs refuse x ≡ refuse k)) ⊎ (Passes cs × (first cs refuse x ≡ x))
+reasons [] refuse x = inr (tt, refl)
+reasons {A} (c ∷ cs) refuse x = go (c .applies) refl (reasons cs refuse x)
+  where
+    here : Bool → A
+    here d = pick d (refuse (c .number)) (first cs refuse x)
+
+    go : (d : Bool) → c .applies ≡ d → ((k : ℕ) × Applies cs k × (first cs refuse x ≡ refuse k)) ⊎ (Passes cs × (first cs refuse x ≡ x))
+        → ((k : ℕ) × Applies (c ∷ cs) k × (here (c .applies) ≡ refuse k)) ⊎ (Passes (c ∷ cs) × (here (c .applies) ≡ x))
+    go true e rest = inl (c .number, inl (e, refl), ap here e)
+    go false e (inl r) = inl (r .0, inr (r .1), ap here e ∙ r .2)
+    go false e (inr p) = inr ((e, p .0), ap here e ∙ p .1)
+
+number-from : (b : ℕ) (cs : List Check) (k : ℕ) → allFrom b cs ≡ true → Applies cs k → b ≤ k
+number-from b [] k h a = absurd a
+number-from b (c ∷ cs) k h a = go (leb b (c .number)) refl a (number-from b cs k)
+  where
+    go : (d : Bool) → leb b (c .number) ≡ d → ((c .applies ≡ true) × (c .number ≡ k)) ⊎ Applies cs k → (allFrom b cs ≡ true → Applies cs k → b ≤ k) → b ≤ k
+    go false e x rest = absurd (true-not-false h (rw e))
+    go true e (inl x) rest = let z = leb-true b (c .number) e in let y = x .1 in omega arith
+    go true e (inr x) rest = rest (sym (rw e) ∙ h) x
+
+refused-or-done : (s : Store) (c : Call) → Refused s c ⊎ (Passes (checks s c) × (call s c ≡ act s c))
+unfolding call
+refused-or-done s c = go (reasons (checks s c) (refused s) (act s c))
+  where
+    go : ((k : ℕ) × Applies (checks s c) k × (first (checks s c) (refused s) (act s c) ≡ refused s k))
+        ⊎ (Passes (checks s c) × (first (checks s c) (refused s) (act s c) ≡ act s c))
+        → Refused s c ⊎ (Passes (checks s c) × (call s c ≡ act s c))
+    go (inl r) =
+        inl (r .0, number-from 9 (checks s c) (r .0) (all-refuse s c) (r .1), r .1, ap (λ (o : Outcome). o .reply) (r .2), ap (λ (o : Outcome). o .store) (r .2))
+    go (inr p) = inr p
+
 pub one-line : OneLine
 unfolding act ask
-one-line s t = go (call-cases s (on t step))
+one-line s t = go (refused-or-done s (on t step))
   where
     m : Memory
     m = s .mem
@@ -121,18 +160,18 @@ one-line s t = go (call-cases s (on t step))
     p : Phase
     p = recordAt (s .txs) t .phase
 
-    go : ((k : ℕ) × (leb 9 k ≡ true) × (call s (on t step) ≡ refused s k)) ⊎ (Passes (checks s (on t step)) × (call s (on t step) ≡ act s (on t step)))
-        → Refused s (on t step) ⊎ ((d : Did) × Line m loc p d × ((d′ : Did) → Line m loc p d′ → d′ ≡ d) × (call s (on t step) ≡ placed s t d))
-    go (inl r) = inl (r .0, leb-true 9 (r .0) (r .1), r .2)
-    go (inr a) = inr (lineAt m loc p, in-figure m loc p (not-false _ (a .0 .1 .1 .1 .0)), only-figure m loc p, a .1)
+    go : Refused s (on t step) ⊎ (Passes (checks s (on t step)) × (call s (on t step) ≡ act s (on t step)))
+        → Refused s (on t step) ⊎ ((d : Did) × Line m loc p d × ((d′ : Did) → Line m loc p d′ → d′ ≡ d) × (call s (on t step) .reply ≡ d .reply) × (call s (on t step) .store ≡ store (d .mem) (s .rec) (set (s .txs) t (d .tx))))
+    go (inl r) = inl r
+    go (inr a) = inr (lineAt m loc p, in-figure m loc p (not-false _ (a .0 .1 .1 .1 .0)), only-figure m loc p, ap (λ (o : Outcome). o .reply) (a .1), ap (λ (o : Outcome). o .store) (a .1))
 
 pub one-recovery-line : OneRecoveryLine
 unfolding act system
-one-recovery-line s = go (call-cases s (sys recover))
+one-recovery-line s = go (refused-or-done s (sys recover))
   where
-    go : ((k : ℕ) × (leb 9 k ≡ true) × (call s (sys recover) ≡ refused s k)) ⊎ (Passes (checks s (sys recover)) × (call s (sys recover) ≡ act s (sys recover)))
+    go : Refused s (sys recover) ⊎ (Passes (checks s (sys recover)) × (call s (sys recover) ≡ act s (sys recover)))
         → Refused s (sys recover)
-        ⊎ ((h : Healed) × RecoveryLine (s .mem) (s .rec) h × ((h′ : Healed) → RecoveryLine (s .mem) (s .rec) h′ → h′ ≡ h) × (call s (sys recover) ≡ settled (s .txs) h))
-    go (inl r) = inl (r .0, leb-true 9 (r .0) (r .1), r .2)
+        ⊎ ((h : Healed) × RecoveryLine (s .mem) (s .rec) h × ((h′ : Healed) → RecoveryLine (s .mem) (s .rec) h′ → h′ ≡ h) × (call s (sys recover) .reply ≡ h .reply) × (call s (sys recover) .store ≡ store (h .mem) (h .rec) (s .txs)))
+    go (inl r) = inl r
     go (inr a) =
-        inr (recoveryLine (s .mem) (s .rec), recovery-in-figure (s .mem) (s .rec) (not-false _ (a .0 .1 .0)), recovery-only-figure (s .mem) (s .rec), a .1)
+        inr (recoveryLine (s .mem) (s .rec), recovery-in-figure (s .mem) (s .rec) (not-false _ (a .0 .1 .0)), recovery-only-figure (s .mem) (s .rec), ap (λ (o : Outcome). o .reply) (a .1), ap (λ (o : Outcome). o .store) (a .1))

@@ -62,7 +62,7 @@ first-cases {A} b (c ∷ cs) refuse x h = go (leb b (c .number)) refl (c .applie
         later (inl r) = inl (r .0, r .1, ap here ed ∙ r .2)
         later (inr p) = inr ((ed, p .0), ap here ed ∙ p .1)
 
-all-refuse : (s : Store) (c : Call) → allFrom 9 (checks s c) ≡ true
+pub all-refuse : (s : Store) (c : Call) → allFrom 9 (checks s c) ≡ true
 all-refuse s (on t begin) = refl
 all-refuse s (on t (read w)) = refl
 all-refuse s (on t (write w v)) = refl

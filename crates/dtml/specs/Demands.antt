@@ -4,15 +4,15 @@ use mathlib.Core.Path.{_≡_}
 use mathlib.Core.Bool.{true, false}
 use mathlib.Core.Logic.{_⊎_, _↔_}
 use mathlib.Core.List.{List, [], _∷_}
-use lib.ListN.{length, getD, replicate}
+use lib.ListN.{length, getD, set, replicate}
 use lib.Dec.{leb}
 use Rattle.bits.specs.Marks.{pick, isMarked, countOf}
 use Rattle.dtml.specs.declared.Phase.the-variants.{E2, E3}
 use Rattle.dtml.specs.Table.{says}
-use Rattle.dtml.specs.Store.{Memory, Store, recordAt}
+use Rattle.dtml.specs.Store.{Memory, Store, store, recordAt}
 use Rattle.dtml.specs.Lines.{Did, Healed}
-use Rattle.dtml.specs.Checks.{read, step, crash, recover, recoverUpTo, Call, on, sys, notIdle}
-use Rattle.dtml.specs.Calls.{call, refused, placed, settled}
+use Rattle.dtml.specs.Checks.{Check, checks, read, step, crash, recover, recoverUpTo, Call, on, sys, notIdle}
+use Rattle.dtml.specs.Calls.{call}
 use Rattle.dtml.specs.Figure1.{Line, RecoveryLine}
 use Rattle.dtml.specs.History.{over, sees, last, taleAt, World, tell, dawn, runs}
 
@@ -32,21 +32,27 @@ value w c = call (w .store) c .reply .value
 
 -- ---- 1. One line
 
+-- k is the number of one of these checks, and that check applies
+abbrev pub Applies : List Check → ℕ → Type 0
+Applies [] k = ⊥
+Applies (c ∷ cs) k = ((c .applies ≡ true) × (c .number ≡ k)) ⊎ Applies cs k
+
+-- refused for a reason: one of this call's checks applies, its number is answered, and nothing changes
 abbrev pub Refused : Store → Call → Type 0
-Refused s c = (k : ℕ) × (9 ≤ k) × (call s c ≡ refused s k)
+Refused s c = (k : ℕ) × (9 ≤ k) × Applies (checks s c) k × (call s c .reply ≡ says k 0) × (call s c .store ≡ s)
 
 -- Each step does exactly one line of the published algorithm, on transaction t's record and the memory; nothing else moves.
 abbrev pub OneLine : Type 0
 OneLine = (s : Store) (t : ℕ) → Refused s (on t step)
     ⊎ ((d : Did) × Line (s .mem) (recordAt (s .txs) t .loc) (recordAt (s .txs) t .phase) d
     × ((d′ : Did) → Line (s .mem) (recordAt (s .txs) t .loc) (recordAt (s .txs) t .phase) d′ → d′ ≡ d)
-    × (call s (on t step) ≡ placed s t d))
+    × (call s (on t step) .reply ≡ d .reply) × (call s (on t step) .store ≡ store (d .mem) (s .rec) (set (s .txs) t (d .tx))))
 
 abbrev pub OneRecoveryLine : Type 0
 OneRecoveryLine = (s : Store) → Refused s (sys recover)
     ⊎ ((h : Healed) × RecoveryLine (s .mem) (s .rec) h
     × ((h′ : Healed) → RecoveryLine (s .mem) (s .rec) h′ → h′ ≡ h)
-    × (call s (sys recover) ≡ settled (s .txs) h))
+    × (call s (sys recover) .reply ≡ h .reply) × (call s (sys recover) .store ≡ store (h .mem) (h .rec) (s .txs)))
 
 -- ---- 2. Committed memories
 
