@@ -2,7 +2,8 @@
 use mathlib.Core.Path.{refl, sym}
 use borrow.Author.Needs.{needs}
 use lib.Seq.{length-take-le}
-use Rattle.replay.proofs.Reports.{few-words, reports}
+use Rattle.day.proofs.Shown.{few-words}
+use Rattle.replay.proofs.Reports.{reports}
 use Rattle.replay.proofs.report.Statement.{statement}
 use Rattle.replay.proofs.report.Tie as tie
 

@@ -1,0 +1,55 @@
+-- `host::register_replay` meets its contract: the rows lent are as long as the header says.
+use mathlib.Core.Path.{refl, sym}
+use borrow.Author.Needs.{needs}
+use lib.Seq.{length-take-le}
+use Rattle.day.proofs.Shown.{few-words, shown}
+use Rattle.host.proofs.register_replay.Statement.{statement}
+use Rattle.host.proofs.register_replay.Tie as tie
+
+header-requires : tie.Need-header-requires
+header-requires c κs = search needs
+
+array-borrow-prefix-vol : tie.Need-array-borrow-prefix-vol
+array-borrow-prefix-vol c = few-words _ _ (c .header .ensures)
+
+slice-aggregate-replay : tie.Need-slice-aggregate-replay
+slice-aggregate-replay c = sym (length-take-le _ _ (few-words _ _ (c .before .header .ensures)))
+
+array-borrow-prefix-pers : tie.Need-array-borrow-prefix-pers
+array-borrow-prefix-pers c = few-words _ _ (c .before .header .ensures)
+
+slice-aggregate-replay-2 : tie.Need-slice-aggregate-replay-2
+slice-aggregate-replay-2 c = sym (length-take-le _ _ (few-words _ _ (c .before .before .header .ensures)))
+
+array-borrow-prefix-old : tie.Need-array-borrow-prefix-old
+array-borrow-prefix-old c = few-words _ _ (c .before .before .header .ensures)
+
+slice-aggregate-replay-3 : tie.Need-slice-aggregate-replay-3
+slice-aggregate-replay-3 c = sym (length-take-le _ _ (few-words _ _ (c .before .before .before .header .ensures)))
+
+replay-requires : tie.Need-replay-requires
+replay-requires c κs = search needs
+
+same-length : tie.Need-same-length
+same-length c = search needs
+
+returns : tie.Need-returns
+returns c =
+    let at-replay = c .before .before .before .before .before in
+    let at-header = at-replay .before .before .before .before .before in
+    shown _ _ _ _ _ _ _ _ _ _ _ _ (at-replay .replay .result) (at-header .header .ensures) refl (sym (length-take-le _ _ (few-words _ _ (at-header .header .ensures)))) (sym (length-take-le _ _ (few-words _ _ (at-header .header .ensures)))) (sym (length-take-le _ _ (few-words _ _ (at-header .header .ensures)))) (at-replay .replay .ensures) .0
+
+pub register-replay-spec : {M : Type 1} → statement M
+register-replay-spec =
+    tie.close
+    (tie.spec
+    header-requires
+    array-borrow-prefix-vol
+    slice-aggregate-replay
+    array-borrow-prefix-pers
+    slice-aggregate-replay-2
+    array-borrow-prefix-old
+    slice-aggregate-replay-3
+    replay-requires
+    same-length
+    returns)
