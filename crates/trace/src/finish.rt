@@ -1,8 +1,10 @@
 // The end of a replay, and its last lines.
 use day::Replayed;
 use day::Totals;
+use dtml::Recovery;
 use dtml::Tx;
 use machine::Held;
+use marks::Marks;
 use text::put_stop;
 use text::put_totals;
 ghost use Prim.Native.Nat.{_+_, _<_};
@@ -26,7 +28,7 @@ pub(crate) fn nothing() -> Totals
 }
 
 // The number of the record after those done, if it was refused.
-pub(crate) fn stopped_at(refusal: u64, records: u64) -> u64
+fn stopped_at(refusal: u64, records: u64) -> u64
     requires { ⌜ records < 65536 ⌝ }
     ensures { λ r. ⌜ r ≡ pick (eqb refusal 0) 0 (records + 1) ⌝ }
 {
@@ -82,4 +84,28 @@ pub(crate) fn ended(
         held,
         txs,
     }
+}
+
+// After the last record that was done: the trace has ended, or the next record is refused.
+pub(crate) fn over(
+    out: &mut [u8],
+    at: usize,
+    refusal: u64,
+    totals: Totals,
+    marks: Marks,
+    glb: u32,
+    recovery: Recovery,
+    txs: [Tx; 64],
+) -> Replayed
+    requires { ⌜ totals .records < 65536 ⌝ }
+    ensures { λ r. ⌜ (r ≡ record { refusal = refusal; number = pick (eqb refusal 0) 0 (totals .records + 1); totals = totals; length = r .length; held = record { marks = marks; glb = glb; recovery = recovery }; txs = txs })
+        × (buffer (now (out .exit)) (r .length) ≡ puts (buffer (now (out .entry)) at) (endText refusal (pick (eqb refusal 0) 0 (totals .records + 1)) totals)) ⌝ }
+{
+    let number = stopped_at(refusal, totals.records);
+    let held = Held {
+        marks,
+        glb,
+        recovery,
+    };
+    ended(out, at, refusal, number, totals, held, txs)
 }

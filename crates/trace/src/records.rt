@@ -1,7 +1,6 @@
 // The records of a trace, done one by one.
-use crate::finish::ended;
 use crate::finish::nothing;
-use crate::finish::stopped_at;
+use crate::finish::over;
 use day::Replayed;
 use day::Totals;
 use doing::carry_out;
@@ -102,29 +101,9 @@ pub(crate) fn records(
                 }
             }
             Item::Stops { refusal } => {
-                let held = Held {
-                    marks,
-                    glb,
-                    recovery,
-                };
-                return ended(
-                    out,
-                    place,
-                    refusal,
-                    stopped_at(refusal, totals.records),
-                    totals,
-                    held,
-                    rows,
-                );
+                return over(out, place, refusal, totals, marks, glb, recovery, rows);
             }
-            Item::End => {
-                let held = Held {
-                    marks,
-                    glb,
-                    recovery,
-                };
-                return ended(out, place, 0, 0, totals, held, rows);
-            }
+            Item::End => return over(out, place, 0, totals, marks, glb, recovery, rows),
         }
     }
 }

@@ -122,51 +122,49 @@ loop-again-2 c =
 enum-known-item-2 : tie.Need-enum-known-item-2 Inv-loop μ-loop
 enum-known-item-2 c = search needs
 
-stopped-at-requires : tie.Need-stopped-at-requires Inv-loop μ-loop
-stopped-at-requires c κs =
+over-requires : tie.Need-over-requires Inv-loop μ-loop
+over-requires c κs =
     let at-loop = c .before .before .before .before .before in
     next-record (at-loop .loop .inv)
 
-ended-requires : tie.Need-ended-requires Inv-loop μ-loop
-ended-requires c κs = search needs
-
 same-length : tie.Need-same-length Inv-loop μ-loop
 same-length c =
-    let at-loop = c .before .before .before .before .before .before .before .before .before in
+    let at-loop = c .before .before .before .before .before .before .before .before in
     vol-long (at-loop .loop .inv)
 
 same-length-2 : tie.Need-same-length-2 Inv-loop μ-loop
 same-length-2 c =
-    let at-loop = c .before .before .before .before .before .before .before .before .before in
+    let at-loop = c .before .before .before .before .before .before .before .before in
     let at-args = at-loop .before .before .before .before .before .before .before .before in
     pers-long (at-loop .loop .inv) ∙ sym (start-pers _ _ _ (at-args .args .held) _ (at-args .pre .0))
 
 same-length-3 : tie.Need-same-length-3 Inv-loop μ-loop
 same-length-3 c =
-    let at-loop = c .before .before .before .before .before .before .before .before .before in
+    let at-loop = c .before .before .before .before .before .before .before .before in
     let at-args = at-loop .before .before .before .before .before .before .before .before in
     old-long (at-loop .loop .inv) ∙ sym (start-old _ _ _ (at-args .args .held) _ (at-args .pre .0))
 
 same-length-4 : tie.Need-same-length-4 Inv-loop μ-loop
 same-length-4 c =
-    let at-ended = c .before .before in
-    let at-loop = at-ended .before .before .before .before .before .before .before in
-    at-ended .ended .kept .0 ∙ out-long (at-loop .loop .inv)
+    let at-over = c .before .before in
+    let at-loop = at-over .before .before .before .before .before .before in
+    at-over .over .kept .0 ∙ out-long (at-loop .loop .inv)
 
 returns : tie.Need-returns Inv-loop μ-loop
 returns c =
-    let at-ended = c .before .before in
-    let at-stopped-at = at-ended .before in
-    let at-item2 = at-stopped-at .before .before .before in
+    let at-over = c .before .before in
+    let at-item2 = at-over .before .before .before in
     let at-item-at = at-item2 .before .before in
     let at-loop = at-item-at .before in
-    over (at-loop .loop .inv) (refusal-small (at-loop .loop .inv) (at-item-at .item-at .ensures) (at-item2 .item2 .given .1)) (at-refusal (at-loop .loop .inv) (at-item-at .item-at .ensures) (at-item2 .item2 .given .1)) (at-stopped-at .stopped-at .ensures) (at-ended .ended .ensures .0) (at-ended .ended .ensures .1)
+    over (at-loop .loop .inv) (refusal-small (at-loop .loop .inv) (at-item-at .item-at .ensures) (at-item2 .item2 .given .1)) (at-refusal (at-loop .loop .inv) (at-item-at .item-at .ensures) (at-item2 .item2 .given .1)) refl (at-over .over .ensures .0) (at-over .over .ensures .1)
 
 enum-told : tie.Need-enum-told Inv-loop μ-loop
 enum-told c = search needs
 
-ended-requires-2 : tie.Need-ended-requires-2 Inv-loop μ-loop
-ended-requires-2 c κs = search needs
+over-requires-2 : tie.Need-over-requires-2 Inv-loop μ-loop
+over-requires-2 c κs =
+    let at-loop = c .before .before .before .before in
+    next-record (at-loop .loop .inv)
 
 same-length-5 : tie.Need-same-length-5 Inv-loop μ-loop
 same-length-5 c =
@@ -187,17 +185,17 @@ same-length-7 c =
 
 same-length-8 : tie.Need-same-length-8 Inv-loop μ-loop
 same-length-8 c =
-    let at-ended2 = c .before .before in
-    let at-loop = at-ended2 .before .before .before .before .before in
-    at-ended2 .ended2 .kept .0 ∙ out-long (at-loop .loop .inv)
+    let at-over2 = c .before .before in
+    let at-loop = at-over2 .before .before .before .before .before in
+    at-over2 .over2 .kept .0 ∙ out-long (at-loop .loop .inv)
 
 returns-2 : tie.Need-returns-2 Inv-loop μ-loop
 returns-2 c =
-    let at-ended2 = c .before .before in
-    let at-enum-told = at-ended2 .before .before in
+    let at-over2 = c .before .before in
+    let at-enum-told = at-over2 .before .before in
     let at-item-at = at-enum-told .before .before in
     let at-loop = at-item-at .before in
-    over (at-loop .loop .inv) (omega arith) (at-end (at-loop .loop .inv) (at-item-at .item-at .ensures) (at-enum-told .enum-told .given .1)) refl (at-ended2 .ended2 .ensures .0) (at-ended2 .ended2 .ensures .1)
+    over (at-loop .loop .inv) (omega arith) (at-end (at-loop .loop .inv) (at-item-at .item-at .ensures) (at-enum-told .enum-told .given .1)) refl (at-over2 .over2 .ensures .0) (at-over2 .over2 .ensures .1)
 
 pub records-spec : {M : Type 1} → statement M
 records-spec =
@@ -225,15 +223,14 @@ records-spec =
     loop-less-2
     loop-again-2
     enum-known-item-2
-    stopped-at-requires
-    ended-requires
+    over-requires
     same-length
     same-length-2
     same-length-3
     same-length-4
     returns
     enum-told
-    ended-requires-2
+    over-requires-2
     same-length-5
     same-length-6
     same-length-7
