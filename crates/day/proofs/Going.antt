@@ -4,18 +4,21 @@ use Prim.Native.Nat.{ℕ, _+_, _-_, _*_, _≤_, _<_}
 use native.Mathlib.Omega.{arith}
 use native.Mathlib.Nat.{zero-add}
 use mathlib.Core.Path.{_≡_, refl, sym, ap, subst, _∙_}
+use mathlib.Core.Bool.{true, false}
 use mathlib.Core.List.{List, [], _∷_, _++_, append-assoc, append-nil}
 use lib.ListN.{length, getD, set, drop, length-append, length-drop, length-replicate}
 use lib.Seq.{drop-drop}
 use lib.Dec.{eqb, leb}
 use Rattle.bits.specs.Marks.{pick, countOf}
 use Rattle.bits.proofs.Laws.{laws}
+use Rattle.dtml.specs.declared.Act.{Act}
 use Rattle.dtml.specs.declared.Recovery.{Recovery}
 use Rattle.dtml.specs.declared.Tx.{Tx}
 use Rattle.dtml.specs.Table.{Reply, reply}
 use Rattle.dtml.specs.Store.{Store, memory, store, fresh, recordAt}
 use Rattle.dtml.specs.Lines.{crashTxs}
-use Rattle.dtml.specs.Checks.{Call, notIdle}
+use Rattle.dtml.specs.Checks.{notIdle, flush, crash, recover, recoverUpTo, Call, on, sys}
+use Rattle.dtml.specs.Acts.{callOf}
 use Rattle.dtml.specs.Counting.{crashesIn, linesIn, cutIn}
 use Rattle.dtml.specs.Calls.{Outcome, call}
 use Rattle.dtml.specs.History.{Past, World, tell, dawn, runs}
@@ -28,22 +31,20 @@ use Rattle.dtml.proofs.Lift.{default-free}
 use Rattle.dtml.proofs.Counts.{tell-adds}
 use Rattle.machine.specs.declared.Held.{Held}
 use Rattle.machine.specs.Given.{storeOf}
-use Rattle.reader.specs.declared.Act.{Act}
-use Rattle.reader.specs.declared.Act.the-variants.{Begin, Read, Write, Commit, Step, Flush, Crash, Recover}
 use Rattle.reader.specs.declared.Item.{Item}
 use Rattle.reader.specs.declared.Item.the-variants.{End, Stops, Does}
-use Rattle.reader.specs.Said.{callOf, foundOf}
-use Rattle.reader.specs.Trace.{does, found, Script, script, scriptOf}
-use Rattle.reader.proofs.Scripts.{scriptFrom, script-more, script-end, script-stops, script-does, found-bytes, found-refusal}
+use Rattle.reader.specs.Said.{foundOf}
+use Rattle.reader.specs.Trace.{kinds, does, found, Script, script, scriptOf}
+use Rattle.reader.proofs.Scripts.{AllAsk, scriptFrom, script-more, script-end, script-stops, script-does, found-asks, found-bytes, found-refusal}
 use Rattle.text.specs.Buffer.{Buffer, buffer, puts}
 use Rattle.text.proofs.Laws.{puts-length, puts-append, stop-short, totals-short}
 use Rattle.doing.specs.declared.Carried.{Carried}
-use Rattle.doing.specs.Carrying.{slotOf, carry, Left, leftOf, callTxs, putBack}
+use Rattle.doing.specs.Carrying.{slotOf, carry, Left, leftOf, reachesAll, callTxs, putBack}
 use Rattle.doing.proofs.Carries.{slot-low, carries}
 use Rattle.tally.specs.Tally.{committedIn}
 use Rattle.day.specs.declared.Totals.{Totals}
 use Rattle.day.specs.Replay.{answers, answered, totals, totalsOf, Ending, done, answerText, answerLines, stopText, totalsText, endText, textOf}
-use Rattle.day.specs.declared.Replayed.{Replayed}
+use Rattle.day.specs.declared.Ended.{Ended}
 use Rattle.day.specs.Ends.{endingOf, longest, Ends}
 use Rattle.day.specs.Counted.{counted, Few}
 
@@ -109,46 +110,39 @@ going-start n bs first some few three =
 -- ---- one record more
 
 -- a record of a trace is one crash, one line or one commit at the most, and cuts off no more words than there are marks for
-pub crashes-one : (act : Act) → crashesIn (callOf act) ≤ 1
-crashes-one (Begin i) = omega arith
-crashes-one (Read i w) = omega arith
-crashes-one (Write i w v) = omega arith
-crashes-one (Commit i) = omega arith
-crashes-one (Step i) = omega arith
-crashes-one (Flush w) = omega arith
-crashes-one Crash = omega arith
-crashes-one Recover = omega arith
+pub crashes-one : (c : Call) → crashesIn c ≤ 1
+crashes-one (on t a) = omega arith
+crashes-one (sys (flush w)) = omega arith
+crashes-one (sys crash) = omega arith
+crashes-one (sys recover) = omega arith
+crashes-one (sys (recoverUpTo b)) = omega arith
 
-pub lines-one : (act : Act) (a : Reply) → linesIn (callOf act) a ≤ 1
-lines-one (Begin i) a = omega arith
-lines-one (Read i w) a = omega arith
-lines-one (Write i w v) a = omega arith
-lines-one (Commit i) a = omega arith
-lines-one (Step i) a = omega arith
-lines-one (Flush w) a = omega arith
-lines-one Crash a = omega arith
-lines-one Recover a = pick-case (λ k. k ≤ 1) (leb 9 (a .number)) (λ e. omega arith) (λ e. omega arith)
+abbrev OneLine : Call → Type 0
+OneLine c = (a : Reply) → linesIn c a ≤ 1
 
-pub cut-marks : (act : Act) (r : Recovery) (k : List ℕ) → cutIn (callOf act) r k ≤ countOf k
-cut-marks (Begin i) r k = omega arith
-cut-marks (Read i w) r k = omega arith
-cut-marks (Write i w v) r k = omega arith
-cut-marks (Commit i) r k = omega arith
-cut-marks (Step i) r k = omega arith
-cut-marks (Flush w) r k = omega arith
-cut-marks Crash r k = pick-case (λ x. x ≤ countOf k) (notIdle r) (λ e. omega arith) (λ e. omega arith)
-cut-marks Recover r k = omega arith
+lines-one : AllAsk OneLine kinds
+lines-one =
+    let none : (body : List ℕ) (a : Reply) → 0 ≤ 1 = λ body a. omega arith in
+    let one : (body : List ℕ) (a : Reply) → pick (leb 9 (a .number)) 0 1 ≤ 1 =
+    λ body a. pick-case (λ k. k ≤ 1) (leb 9 (a .number)) (λ e. omega arith) (λ e. omega arith) in
+    (none, (none, (none, (none, (none, (none, (none, (one, tt))))))))
+
+pub cut-marks : (c : Call) (r : Recovery) (k : List ℕ) → cutIn c r k ≤ countOf k
+cut-marks (on t a) r k = omega arith
+cut-marks (sys (flush w)) r k = omega arith
+cut-marks (sys crash) r k = pick-case (λ x. x ≤ countOf k) (notIdle r) (λ e. omega arith) (λ e. omega arith)
+cut-marks (sys recover) r k = omega arith
+cut-marks (sys (recoverUpTo b)) r k = omega arith
 
 pub committed-one : (a : Reply) → committedIn a ≤ 1
 committed-one a = pick-case (λ k. k ≤ 1) (eqb (a .number) 4) (λ e. omega arith) (λ e. omega arith)
 
-few-more : (t : Totals) (act : Act) (r : Recovery) (k : List ℕ) (a : Reply) → length k ≡ 4 → Few (t .records) t
-    → Few (t .records + 1) (counted t r k (callOf act) a)
+few-more : (t : Totals) (c : Call) (r : Recovery) (k : List ℕ) (a : Reply) → linesIn c a ≤ 1 → length k ≡ 4 → Few (t .records) t
+    → Few (t .records + 1) (counted t r k c a)
 unfolding counted
-few-more t act r k a four f =
-    let c = crashes-one act in
-    let l = lines-one act a in
-    let m = cut-marks act r k in
+few-more t c r k a l four f =
+    let b = crashes-one c in
+    let m = cut-marks c r k in
     let e = committed-one a in
     let w = laws .count-room k in
     record {
@@ -172,6 +166,10 @@ module _ (n : ℕ) (bs first : List ℕ) (s : Store) (t : Totals) (at : ℕ) (o 
       script-does (drop at bs) (callOf act) bytes here
       ∙ ap (λ (x : List ℕ). script (callOf act ∷ scriptFrom x .calls) (scriptFrom x .refusal)) (drop-drop bytes at bs)
 
+  one-line : OneLine c
+  unfolding c
+  one-line = found-asks OneLine (drop at bs) (callOf act) bytes lines-one here
+
   call-on : length (answerText (t .records + 1) (call s c .reply)) ≤ 30
       → Going n bs first (call s c .store) (counted t (s .rec) (s .mem .marks) c (call s c .reply)) (at + bytes) (puts o (answerText (t .records + 1) (call s c .reply)))
   unfolding counted tell runs answers answered answerLines c w
@@ -191,7 +189,7 @@ module _ (n : ℕ) (bs first : List ℕ) (s : Store) (t : Totals) (at : ℕ) (o 
         crashes = ap (λ k. k + crashesIn c) (going .crashes) ∙ sym (adds .crashes);
         lines = ap (λ k. k + linesIn c (call s c .reply)) (going .lines) ∙ sym (adds .lines);
         cut = ap (λ k. k + cutIn c (s .rec) (s .mem .marks)) (going .cut) ∙ sym (adds .cut);
-        few = few-more t act (s .rec) (s .mem .marks) (call s c .reply) (going .inv .shape .marks-long) (going .few);
+        few = few-more t c (s .rec) (s .mem .marks) (call s c .reply) (one-line (call s c .reply)) (going .inv .shape .marks-long) (going .few);
         ahead = omega (arith, going .ahead);
         within = omega (arith, going .within);
         ends = sym (ap (λ (p : Script). runs w (p .calls)) rest-here) ∙ going .ends;
@@ -331,25 +329,11 @@ module _ (vol pers old : List ℕ) (held : Held) (txs : List Tx) (e : storeOf vo
   unfolding fresh
   start-old = ap (λ (s : Store). length (s .mem .old)) e ∙ length-replicate (length vol) 0
 
-crashed-rows : (act : Act) (ts : List Tx) → crashesIn (callOf act) ≡ 1 → crashTxs ts ≡ callTxs (callOf act) ts
-crashed-rows (Begin i) ts e = absurd (omega arith)
-crashed-rows (Read i w) ts e = absurd (omega arith)
-crashed-rows (Write i w v) ts e = absurd (omega arith)
-crashed-rows (Commit i) ts e = absurd (omega arith)
-crashed-rows (Step i) ts e = absurd (omega arith)
-crashed-rows (Flush w) ts e = absurd (omega arith)
-crashed-rows Crash ts e = refl
-crashed-rows Recover ts e = absurd (omega arith)
+crashed-rows : (c : Call) (ts : List Tx) → reachesAll c ≡ true → crashTxs ts ≡ callTxs c ts
+crashed-rows c ts e = rw e
 
-kept-rows : (act : Act) (ts : List Tx) → (crashesIn (callOf act) ≡ 1 → ⊥) → ts ≡ callTxs (callOf act) ts
-kept-rows (Begin i) ts e = refl
-kept-rows (Read i w) ts e = refl
-kept-rows (Write i w v) ts e = refl
-kept-rows (Commit i) ts e = refl
-kept-rows (Step i) ts e = refl
-kept-rows (Flush w) ts e = refl
-kept-rows Crash ts e = absurd (e refl)
-kept-rows Recover ts e = refl
+kept-rows : (c : Call) (ts : List Tx) → reachesAll c ≡ false → ts ≡ callTxs c ts
+kept-rows c ts e = rw e
 
 module _ {trace : List ℕ} {n : ℕ} {out₀ vol pers old out marks : List ℕ} {glb : ℕ} {recovery : Recovery} {rows : List Tx} {totals : Totals} {at place : ℕ}
     (loop : Looping trace n out₀ vol pers old out marks glb recovery rows totals at place) where
@@ -396,15 +380,15 @@ module _ {trace : List ℕ} {n : ℕ} {out₀ vol pers old out marks : List ℕ}
     pub at-refusal : {k : ℕ} → item ≡ Stops k → restOf trace at ≡ script [] k
     at-refusal {k} is = script-stops (drop at trace) k (sym said ∙ ap foundOf is)
 
-  pub over : {k m : ℕ} {r : Replayed} {out′ : List ℕ} → k < 100 → restOf trace at ≡ script [] k → m ≡ pick (eqb k 0) 0 (totals .records + 1)
-      → r ≡ record { refusal = k; number = m; totals = totals; length = r .length; held = record { marks = marks; glb = glb; recovery = recovery }; txs = rows }
+  pub over : {k m : ℕ} {r : Ended} {out′ : List ℕ} → k < 100 → restOf trace at ≡ script [] k → m ≡ pick (eqb k 0) 0 (totals .records + 1)
+      → r ≡ record { refusal = k; number = m; totals = totals; length = r .length; held = record { marks = marks; glb = glb; recovery = recovery } }
       → buffer out′ (r .length) ≡ puts (buffer out place) (endText k m totals)
-      → Ends (done n (scriptOf trace)) r vol pers old out₀ out′
+      → Ends (done n (scriptOf trace)) r vol pers old rows out₀ out′
   over {k} {m} {r} {out′} small e f q o =
       let s = store (memory vol pers old marks glb) recovery rows in
       record {
         ending =
-            ap (λ (x : Replayed). endingOf x vol pers old) q
+            ap (λ (x : Ended). endingOf x vol pers old rows) q
             ∙ ap (λ (j : ℕ). record { refusal = k; number = j; totals = totals; store = s }) f
             ∙ ends-so n trace out₀ s totals at (buffer out place) (loop .0) k e;
         text =
@@ -416,6 +400,9 @@ module _ {trace : List ℕ} {n : ℕ} {out₀ vol pers old out marks : List ℕ}
   module _ {act : Act} {bytes : ℕ} {item : Item} (said : foundOf item ≡ found (drop at trace)) (is : item ≡ Does act bytes) where
     here : found (drop at trace) ≡ does (callOf act) bytes
     here = sym said ∙ ap foundOf is
+
+    pub one-line-so : (a : Reply) → linesIn (callOf act) a ≤ 1
+    one-line-so = found-asks OneLine (drop at trace) (callOf act) bytes lines-one here
 
     pub nearer : length trace - (at + bytes) < length trace - at
     nearer =
@@ -455,10 +442,10 @@ module _ {trace : List ℕ} {n : ℕ} {out₀ vol pers old out marks : List ℕ}
             loop .1,
           )
 
-      pub again-crash : crashesIn (callOf act) ≡ 1 → rows′ ≡ crashTxs (set rows i (l .tx))
+      pub again-crash : reachesAll (callOf act) ≡ true → rows′ ≡ crashTxs (set rows i (l .tx))
           → Looping trace n out₀ vol′ pers′ old′ out′ marks′ glb′ (l .recovery) rows′ totals′ (at + bytes) place′
-      again-crash k e = again (e ∙ crashed-rows act _ k)
+      again-crash k e = again (e ∙ crashed-rows (callOf act) _ k)
 
-      pub again-kept : (crashesIn (callOf act) ≡ 1 → ⊥) → rows′ ≡ set rows i (l .tx)
+      pub again-kept : reachesAll (callOf act) ≡ false → rows′ ≡ set rows i (l .tx)
           → Looping trace n out₀ vol′ pers′ old′ out′ marks′ glb′ (l .recovery) rows′ totals′ (at + bytes) place′
-      again-kept k e = again (e ∙ kept-rows act _ k)
+      again-kept k e = again (e ∙ kept-rows (callOf act) _ k)

@@ -4,6 +4,7 @@ use native.Mathlib.Omega.{arith}
 use borrow.Author.Tests.{leb-true, leb-false, le-leb, lt-leb}
 use mathlib.Core.Path.{_≡_, refl, sym, ap, _∙_}
 use mathlib.Core.Bool.{Bool, true, false}
+use mathlib.Core.List.{List}
 use lib.ListN.{set}
 use lib.Seq.{set-getD}
 use lib.Dec.{leb}
@@ -12,16 +13,17 @@ use Rattle.dtml.specs.declared.Answer.the-variants.{NoRecord}
 use Rattle.dtml.specs.declared.Phase.the-variants.{Fresh}
 use Rattle.dtml.specs.declared.Recovery.{Recovery}
 use Rattle.dtml.specs.declared.Tx.{Tx}
-use Rattle.dtml.specs.Store.{Memory, Store, store, tx, recordAt}
-use Rattle.dtml.specs.Checks.{Ask, Sys, Call, on, sys, unfit}
-use Rattle.dtml.specs.Calls.{call, outcome, systemTxs, callOne, callSystem}
+use Rattle.dtml.specs.Store.{Memory, Store, tx, recordAt}
+use Rattle.dtml.specs.Lines.{crashTxs}
+use Rattle.dtml.specs.Checks.{Ask, Sys, flush, crash, recover, recoverUpTo, Call, on, sys, unfit}
+use Rattle.dtml.specs.Calls.{call, settled, systemTxs, callOne, callSystem}
 use Rattle.dtml.proofs.Lift.{no-record, on-record, on-system}
 use Rattle.turn.specs.declared.Turn.{Turn}
 use Rattle.turn.specs.Turning.{didOf}
 use Rattle.system.specs.declared.Heal.{Heal}
 use Rattle.system.specs.Healing.{healedOf}
-use Rattle.reader.specs.declared.Act.{Act}
-use Rattle.reader.specs.Said.{callOf}
+use Rattle.dtml.specs.declared.Act.{Act}
+use Rattle.dtml.specs.Acts.{callOf}
 use Rattle.doing.specs.declared.Carried.{Carried}
 use Rattle.doing.specs.Carrying.{identifierOf, slotOf, carry, carryOn, leftOf, turned, settledBeside, putBack}
 
@@ -62,6 +64,11 @@ module _ (m : Memory) (r : Recovery) (t : Tx) (act : Act) (id : ℕ) (named : id
 put-same : (s : Store) (i : ℕ) → set (s .txs) i (recordAt (s .txs) i) ≡ s .txs
 put-same s i = set-getD (s .txs) i (tx 0 Fresh)
 
+-- a call on no record, with the records that it leaves
+reached : {ts : List Tx} (s : Store) (k : Sys) → unfit s ≡ false → systemTxs k (s .txs) ≡ ts
+    → call s (sys k) ≡ settled ts (callSystem (s .mem) (s .rec) k)
+reached s k h e = on-system s k h ∙ ap (λ xs. settled xs (callSystem (s .mem) (s .rec) k)) e
+
 pub carries : (s : Store) (c : Call) → unfit s ≡ false → call s c ≡ putBack s c (carry (s .mem) (s .rec) (recordAt (s .txs) (slotOf c)) c)
 unfolding carry
 carries s (on i a) h = go (leb 64 i) refl
@@ -70,6 +77,7 @@ carries s (on i a) h = go (leb 64 i) refl
         → call s (on i a) ≡ putBack s (on i a) (carry (s .mem) (s .rec) (recordAt (s .txs) (slotOf (on i a))) (on i a))
     go true e = no-record s i a h (leb-true 64 i e) ∙ rw (e, put-same s 0)
     go false e = on-record s i a h (leb-false 64 i e) ∙ rw e
-carries s (sys k) h =
-    on-system s k h
-    ∙ ap (λ ts. outcome (callSystem (s .mem) (s .rec) k .reply) (store (callSystem (s .mem) (s .rec) k .mem) (callSystem (s .mem) (s .rec) k .rec) (systemTxs k ts))) (sym (put-same s 0))
+carries s (sys (flush w)) h = reached s (flush w) h (sym (put-same s 0))
+carries s (sys crash) h = reached s crash h (ap crashTxs (sym (put-same s 0)))
+carries s (sys recover) h = reached s recover h (sym (put-same s 0))
+carries s (sys (recoverUpTo b)) h = reached s (recoverUpTo b) h (sym (put-same s 0))

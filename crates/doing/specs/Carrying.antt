@@ -1,5 +1,6 @@
 -- A call on what it is handed: the store without its records, and the record that the call names.
 use Prim.Native.Nat.{ℕ}
+use mathlib.Core.Bool.{Bool, true, false}
 use mathlib.Core.List.{List}
 use lib.ListN.{set}
 use lib.Dec.{leb}
@@ -8,9 +9,9 @@ use Rattle.dtml.specs.declared.Tx.{Tx}
 use Rattle.dtml.specs.declared.Recovery.{Recovery}
 use Rattle.dtml.specs.Table.{Reply, says, reply}
 use Rattle.dtml.specs.Store.{Memory, Store, store}
-use Rattle.dtml.specs.Lines.{Did, Healed}
-use Rattle.dtml.specs.Checks.{Call, on, sys}
-use Rattle.dtml.specs.Calls.{Outcome, outcome, systemTxs, callOne, callSystem}
+use Rattle.dtml.specs.Lines.{Did, Healed, crashTxs}
+use Rattle.dtml.specs.Checks.{flush, crash, recover, recoverUpTo, Call, on, sys}
+use Rattle.dtml.specs.Calls.{Outcome, outcome, callOne, callSystem}
 use Rattle.doing.specs.declared.Carried.{Carried}
 
 -- the record that a call is handed: that of its identifier; record 0, which stays as it is, where there is none
@@ -49,9 +50,15 @@ abbrev pub leftOf : Carried → Memory → Left
 leftOf c m = left (reply (c .answer)) m (c .recovery) (c .tx)
 
 -- only a crash reaches the other records
+abbrev pub reachesAll : Call → Bool
+reachesAll (on t a) = false
+reachesAll (sys (flush w)) = false
+reachesAll (sys crash) = true
+reachesAll (sys recover) = false
+reachesAll (sys (recoverUpTo b)) = false
+
 abbrev pub callTxs : Call → List Tx → List Tx
-callTxs (on t a) ts = ts
-callTxs (sys k) ts = systemTxs k ts
+callTxs c ts = pick (reachesAll c) (crashTxs ts) ts
 
 -- the whole store with what is left put back
 abbrev pub putBack : Store → Call → Left → Outcome

@@ -1,16 +1,16 @@
-// Does one record of a trace, on the store without its records and the one record that it names.
+// Does one call, on the store without its records and the one record that it names.
+use dtml::Act;
 use dtml::Answer;
 use dtml::Recovery;
 use dtml::Tx;
 use marks::Marks;
-use reader::Act;
 use system::Heal;
 use turn::Turn;
 ghost use Prim.Native.Nat.{_<_};
 ghost use mathlib.Core.Path.{_≡_};
 ghost use Rattle.dtml.specs.Store.{memory};
-ghost use Rattle.reader.specs.Said.{callOf};
-ghost use Rattle.doing.specs.Carrying.{identifierOf, slotOf, carry, leftOf};
+ghost use Rattle.dtml.specs.Acts.{callOf};
+ghost use Rattle.doing.specs.Carrying.{identifierOf, slotOf, reachesAll, carry, leftOf};
 
 // What is left beside the rows, the marks and the count.
 pub struct Carried {
@@ -60,6 +60,7 @@ fn identifier(act: Act) -> u64
         Act::Flush { word: _ } => 0,
         Act::Crash => 0,
         Act::Recover => 0,
+        Act::RecoverUpTo { allowance: _ } => 0,
     }
 }
 
@@ -72,6 +73,27 @@ pub fn slot(act: Act) -> usize
         return 0;
     }
     id as usize
+}
+
+// Only a crash reaches the other records; `system::crash_tx` is what it does to each.
+pub fn reaches_all(act: Act) -> bool
+    ensures { λ r. ⌜ r ≡ reachesAll (callOf act) ⌝ }
+{
+    match act {
+        Act::Begin { id: _ } => false,
+        Act::Read { id: _, word: _ } => false,
+        Act::Write {
+            id: _,
+            word: _,
+            value: _,
+        } => false,
+        Act::Commit { id: _ } => false,
+        Act::Step { id: _ } => false,
+        Act::Flush { word: _ } => false,
+        Act::Crash => true,
+        Act::Recover => false,
+        Act::RecoverUpTo { allowance: _ } => false,
+    }
 }
 
 pub fn carry_out(
@@ -121,5 +143,9 @@ pub fn carry_out(
         ),
         Act::Crash => settled(system::crash(vol, pers, old, *marks, glb, recovery), tx),
         Act::Recover => settled(system::recover(vol, pers, old, marks, glb, recovery), tx),
+        Act::RecoverUpTo { allowance } => settled(
+            system::recover_up_to(vol, pers, old, marks, glb, recovery, allowance),
+            tx,
+        ),
     }
 }

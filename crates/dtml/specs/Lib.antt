@@ -7,3 +7,4 @@ pub mod Figure1
 pub mod History
 pub mod Demands
 pub mod Counting
+pub mod Acts

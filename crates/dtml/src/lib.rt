@@ -47,6 +47,19 @@ pub enum Recovery {
     C6,
 }
 
+// What is asked of the machine; specs/Acts.antt says which call each is.
+pub enum Act {
+    Begin { id: u64 },
+    Read { id: u64, word: u64 },
+    Write { id: u64, word: u64, value: u32 },
+    Commit { id: u64 },
+    Step { id: u64 },
+    Flush { word: u64 },
+    Crash,
+    Recover,
+    RecoverUpTo { allowance: u64 },
+}
+
 // What a call answers; specs/Table.antt lists the number and the value of each case.
 pub enum Answer {
     Taken { lines: u64 },

@@ -1,10 +1,8 @@
 // Replays a trace for a host in another language, such as C or Rust: numbers and slices of numbers are all that it hands over.
-use dtml::Phase;
 use dtml::Recovery;
-use dtml::Tx;
 use machine::Held;
 use reader::trace::header;
-use trace::replay;
+use trace::replay_beside;
 ghost use mathlib.Core.Path.{_≡_};
 ghost use Rattle.text.specs.Buffer.{buffer, puts};
 ghost use Rattle.day.specs.Replay.{printed};
@@ -24,19 +22,16 @@ pub extern "C" fn register_replay(trace: &[u8], out: &mut [u8]) -> usize
         glb: 0,
         recovery: Recovery::Idle,
     };
-    let tx = Tx {
-        loc: 0,
-        phase: Phase::Fresh,
-    };
     let n = header(trace).words;
-    let done = replay(
+    let done = replay_beside(
         trace,
         &mut vol[..n],
         &mut pers[..n],
         &mut old[..n],
         held,
-        [tx; 64],
+        64,
         out,
     );
-    done.length
+    let ended = done.ended;
+    ended.length
 }

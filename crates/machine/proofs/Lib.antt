@@ -1,2 +1,2 @@
-mod Suffixes
-mod Whole
+pub mod Lending
+pub mod Whole

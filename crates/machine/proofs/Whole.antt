@@ -1,85 +1,104 @@
--- What each call's returns ask, over plain values: unfit and no such record by the table; otherwise the call on what was handed on, put back in its place.
-use Prim.Native.Nat.{ℕ, _≤_, _<_}
+-- What is done beside the row of records, put together with what the thin functions do to the row, is the call on the whole store: an unfit store is refused
+-- and its record is put back as it was; of a fit one, the call is what it does to what it is handed.
+use Prim.Native.Nat.{ℕ}
 use borrow.Author.Tests.{eq-eqb, eqb-true, not-false}
 use mathlib.Core.Path.{_≡_, refl, sym, ap, _∙_}
 use mathlib.Core.Bool.{Bool, true, false, not}
 use mathlib.Core.List.{List, [], _∷_}
-use lib.ListN.{length, getD, set, replicate}
+use lib.ListN.{length, set, replicate}
+use lib.Seq.{set-getD}
 use lib.Dec.{eqb, ltb}
-use Rattle.dtml.specs.declared.Tx.{Tx}
-use Rattle.dtml.specs.declared.Answer.{Answer}
-use Rattle.dtml.specs.declared.Answer.the-variants.{Unfit, NoRecord}
+use Rattle.bits.specs.Marks.{pick}
+use Rattle.dtml.specs.declared.Answer.the-variants.{Taken, Unfit}
+use Rattle.dtml.specs.declared.Phase.the-variants.{Fresh}
 use Rattle.dtml.specs.declared.Recovery.{Recovery}
-use Rattle.dtml.specs.Store.{memory, fresh}
-use Rattle.dtml.specs.Checks.{anyOf, unfit, unfitRows, unfitBeside, unfitTxs, Ask, Sys, on, sys}
-use Rattle.dtml.specs.Calls.{call, makeFresh, placed, settled, systemTxs, callOne, callSystem}
-use Rattle.dtml.proofs.Lift.{unfit-call, unfit-system, no-record, on-record, on-system, default-free, store-fits}
+use Rattle.dtml.specs.declared.Tx.{Tx}
+use Rattle.dtml.specs.Store.{Memory, Store, memory, store, fresh, tx, recordAt}
+use Rattle.dtml.specs.Lines.{crashTxs}
+use Rattle.dtml.specs.Checks.{anyOf, unfit, unfitRows, unfitMemory, unfitTxs, Call, on, sys}
+use Rattle.dtml.specs.Calls.{Outcome, outcome, refused, call, makeFresh}
 use Rattle.dtml.proofs.Fit.{none}
-use Rattle.turn.specs.declared.Turn.{Turn}
-use Rattle.system.specs.declared.Heal.{Heal}
-use Rattle.turn.specs.Turning.{didOf}
-use Rattle.system.specs.Healing.{healedOf}
+use Rattle.dtml.proofs.Lift.{unfit-call, unfit-system}
+use Rattle.doing.specs.declared.Carried.{Carried}
+use Rattle.doing.specs.Carrying.{slotOf, reachesAll, carry, leftOf}
+use Rattle.doing.proofs.Carries.{carries}
+use Rattle.records.specs.Row.{storedIf}
 use Rattle.machine.specs.declared.Held.{Held}
-use Rattle.machine.specs.declared.After.{After}
-use Rattle.machine.specs.Given.{storeOf, outcomeOf, freshAfter}
+use Rattle.machine.specs.declared.work.Worked.{Worked}
+use Rattle.machine.specs.declared.work.Made.{Made}
+use Rattle.machine.specs.Given.{storeOf, outcomeOf}
+use Rattle.machine.specs.Working.{Work, workOf, worked, workedOf, freshHeld, Renewed, renewed, renewedOf}
 
--- a test of three parts, of which the second is the records' number
-by-last : (a b c : Bool) → c ≡ true → true ≡ anyOf (a ∷ b ∷ c ∷ [])
-by-last true b c h = refl
-by-last false true c h = refl
-by-last false false c h = rw h
+-- ---- the ways of `work`
 
-by-first : (a b c : Bool) → b ≡ false → c ≡ false → a ≡ anyOf (a ∷ b ∷ c ∷ [])
-by-first true b c p q = refl
-by-first false b c p q = rw (p, q)
+module _ (v p o : List ℕ) (h : Held) (bad : Bool) (t : Tx) (c : Call) {test : Bool} {x : Worked}
+    (tested : test ≡ unfitMemory (memory v p o (h .marks) (h .glb)) (h .recovery)) where
+  pub unfit-memory : test ≡ true → x ≡ record { after = record { answer = Unfit; held = h }; tx = t; cut = false }
+      → workedOf x v p o ≡ worked (memory v p o (h .marks) (h .glb)) (h .recovery) bad t c
+  unfolding worked
+  unfit-memory e q = ap (λ (y : Worked). workedOf y v p o) q ∙ rw (sym tested ∙ e)
 
-module _ (v p o : ℕ) (k : List ℕ) (g : ℕ) (r : Recovery) (ts : List Tx) where
-  pub unfit-records : unfitTxs v ts ≡ true → true ≡ anyOf (unfitBeside v p o k g r ∷ not (eqb (length ts) 64) ∷ unfitTxs v ts ∷ [])
-  unfit-records e = by-last (unfitBeside v p o k g r) (not (eqb (length ts) 64)) (unfitTxs v ts) e
+  pub unfit-row : test ≡ false → bad ≡ true → x ≡ record { after = record { answer = Unfit; held = h }; tx = t; cut = false }
+      → workedOf x v p o ≡ worked (memory v p o (h .marks) (h .glb)) (h .recovery) bad t c
+  unfolding worked
+  unfit-row e b q = ap (λ (y : Worked). workedOf y v p o) q ∙ rw (sym tested ∙ e, b)
 
-  pub fit-records : (test : Bool) → length ts ≡ 64 → unfitTxs v ts ≡ false → test ≡ unfitBeside v p o k g r
-      → test ≡ anyOf (unfitBeside v p o k g r ∷ not (eqb (length ts) 64) ∷ unfitTxs v ts ∷ [])
-  fit-records test long e q =
-      q ∙ by-first (unfitBeside v p o k g r) (not (eqb (length ts) 64)) (unfitTxs v ts) (ap not (eq-eqb (length ts) 64 long)) e
+  pub fit-done : {v′ p′ o′ k′ : List ℕ} {g′ : ℕ} {d : Carried} {cut : Bool} → test ≡ false → bad ≡ false
+      → leftOf d (memory v′ p′ o′ k′ g′) ≡ carry (memory v p o (h .marks) (h .glb)) (h .recovery) t c → cut ≡ reachesAll c
+      → x ≡ record { after = record { answer = d .answer; held = record { marks = k′; glb = g′; recovery = d .recovery } }; tx = d .tx; cut = cut }
+      → workedOf x v′ p′ o′ ≡ worked (memory v p o (h .marks) (h .glb)) (h .recovery) bad t c
+  unfolding worked
+  fit-done {v′} {p′} {o′} {k′} {g′} e b done all q =
+      ap (λ (y : Worked). workedOf y v′ p′ o′) q
+      ∙ ap (workOf _) all
+      ∙ ap (λ l. workOf l (reachesAll c)) done
+      ∙ rw (sym tested ∙ e, b)
 
-abbrev after : Answer → Held → List Tx → After
-after a h ts = record { answer = a; held = h; txs = ts }
+-- ---- a call
 
-module _ (v p o : List ℕ) (h : Held) (ts : List Tx) (test : Bool)
-    (tested : test ≡ anyOf (unfitBeside (length v) (length p) (length o) (h .marks) (h .glb) (h .recovery) ∷ not (eqb (length ts) 64) ∷ unfitTxs (length v) ts ∷ [])) where
-  fitness : unfit (storeOf v p o h ts) ≡ test
+-- the whole store with what is left put back
+abbrev back : List Tx → ℕ → Work → Outcome
+back ts i w =
+    outcome (w .left .reply) (store (w .left .mem) (w .left .rec) (pick (w .cut) (crashTxs (set ts i (w .left .tx))) (set ts i (w .left .tx))))
+
+three : (a b c : Bool) → anyOf (a ∷ anyOf (b ∷ c ∷ []) ∷ []) ≡ anyOf (a ∷ b ∷ c ∷ [])
+three true b c = refl
+three false true c = refl
+three false false true = refl
+three false false false = refl
+
+unfit-any : (s : Store) (c : Call) → unfit s ≡ true → call s c ≡ refused s 9
+unfit-any s (on t a) e = unfit-call s t a e
+unfit-any s (sys k) e = unfit-system s k e
+
+module _ (m : Memory) (r : Recovery) (ts : List Tx) (c : Call) (bad : Bool)
+    (found : bad ≡ anyOf (not (eqb (length ts) 64) ∷ unfitTxs (length (m .vol)) ts ∷ [])) where
+  unfit-is : unfit (store m r ts) ≡ anyOf (unfitMemory m r ∷ bad ∷ [])
   unfolding unfit
-  fitness = sym tested
+  unfit-is = sym (three (unfitMemory m r) (not (eqb (length ts) 64)) (unfitTxs (length (m .vol)) ts)) ∙ ap (λ b. anyOf (unfitMemory m r ∷ b ∷ [])) (sym found)
 
-  pub asked-unfit : (t : ℕ) (a : Ask) (r : After) → test ≡ true → r ≡ after Unfit h ts → outcomeOf v p o r ≡ call (storeOf v p o h ts) (on t a)
-  asked-unfit t a r e q = ap (outcomeOf v p o) q ∙ sym (unfit-call (storeOf v p o h ts) t a (fitness ∙ e))
+  put-back : call (store m r ts) c ≡ back ts (slotOf c) (worked m r bad (recordAt ts (slotOf c)) c)
+  unfolding worked
+  put-back = go (anyOf (unfitMemory m r ∷ bad ∷ [])) refl
+    where
+      go : (b : Bool) → anyOf (unfitMemory m r ∷ bad ∷ []) ≡ b → call (store m r ts) c ≡ back ts (slotOf c) (worked m r bad (recordAt ts (slotOf c)) c)
+      go true e =
+          unfit-any (store m r ts) c (unfit-is ∙ e)
+          ∙ rw (e, set-getD ts (slotOf c) (tx 0 Fresh))
+      go false e = carries (store m r ts) c (unfit-is ∙ e) ∙ rw e
 
-  pub asked-nobody : (t : ℕ) (a : Ask) (r : After) → test ≡ false → 64 ≤ t → r ≡ after NoRecord h ts → outcomeOf v p o r ≡ call (storeOf v p o h ts) (on t a)
-  asked-nobody t a r e big q = ap (outcomeOf v p o) q ∙ sym (no-record (storeOf v p o h ts) t a (fitness ∙ e) big)
+pub called-whole : (v p o : List ℕ) (h : Held) (ts : List Tx) (c : Call) {bad : Bool} {i : ℕ} {t : Tx} {v′ p′ o′ : List ℕ} {ts₁ ts₂ : List Tx} (x : Worked)
+    → i ≡ slotOf c → bad ≡ anyOf (not (eqb (length ts) 64) ∷ unfitTxs (length v) ts ∷ []) → t ≡ recordAt ts i
+    → workedOf x v′ p′ o′ ≡ worked (memory v p o (h .marks) (h .glb)) (h .recovery) bad t c
+    → ts₁ ≡ set ts i (x .tx) → ts₂ ≡ pick (x .cut) (crashTxs ts₁) ts₁
+    → outcomeOf v′ p′ o′ ts₂ (x .after) ≡ call (storeOf v p o h ts) c
+called-whole v p o h ts c {bad} {i} {v′ = v′} {p′ = p′} {o′ = o′} x at found got done put crashed =
+    ap (λ xs. outcomeOf v′ p′ o′ xs (x .after)) (crashed ∙ ap (λ xs. pick (x .cut) (crashTxs xs) xs) put)
+    ∙ ap (back ts i) (done ∙ ap (λ y. worked (memory v p o (h .marks) (h .glb)) (h .recovery) bad y c) got)
+    ∙ ap (λ j. back ts j (worked (memory v p o (h .marks) (h .glb)) (h .recovery) bad (recordAt ts j) c)) at
+    ∙ sym (put-back (memory v p o (h .marks) (h .glb)) (h .recovery) ts c bad found)
 
-  pub asked-one : (t : ℕ) (a : Ask) (r : After) (d : Tx) (v′ p′ o′ k′ : List ℕ) (g′ : ℕ) (turn : Turn) → test ≡ false → t < 64
-      → didOf turn (memory v′ p′ o′ k′ g′) ≡ callOne (memory v p o (h .marks) (h .glb)) (h .recovery) (getD ts t d) a
-      → r ≡ after (turn .answer) (record { marks = k′; glb = g′; recovery = h .recovery }) (set ts t (turn .tx))
-      → outcomeOf v′ p′ o′ r ≡ call (storeOf v p o h ts) (on t a)
-  asked-one t a r d v′ p′ o′ k′ g′ turn e ht done q =
-      ap (outcomeOf v′ p′ o′) q
-      ∙ ap (placed (storeOf v p o h ts) t) (done ∙ ap (λ x. callOne (memory v p o (h .marks) (h .glb)) (h .recovery) x a) (default-free ts t d (rw (store-fits (storeOf v p o h ts) (fitness ∙ e) .long) ht)))
-      ∙ sym (on-record (storeOf v p o h ts) t a (fitness ∙ e) ht)
-
-  pub system-unfit : (k : Sys) (r : After) → test ≡ true → r ≡ after Unfit h ts → outcomeOf v p o r ≡ call (storeOf v p o h ts) (sys k)
-  system-unfit k r e q = ap (outcomeOf v p o) q ∙ sym (unfit-system (storeOf v p o h ts) k (fitness ∙ e))
-
-  pub system-done : (k : Sys) (r : After) (v′ p′ o′ k′ : List ℕ) (g′ : ℕ) (ts′ : List Tx) (heal : Heal) → test ≡ false
-      → healedOf heal (memory v′ p′ o′ k′ g′) ≡ callSystem (memory v p o (h .marks) (h .glb)) (h .recovery) k → ts′ ≡ systemTxs k ts
-      → r ≡ after (heal .answer) (record { marks = k′; glb = g′; recovery = heal .recovery }) ts′
-      → outcomeOf v′ p′ o′ r ≡ call (storeOf v p o h ts) (sys k)
-  system-done k r v′ p′ o′ k′ g′ ts′ heal e done same q =
-      ap (outcomeOf v′ p′ o′) q
-      ∙ ap (settled ts′) done
-      ∙ ap (λ xs. settled xs (callSystem (memory v p o (h .marks) (h .glb)) (h .recovery) k)) same
-      ∙ sym (on-system (storeOf v p o h ts) k (fitness ∙ e))
-
--- ---- making a store fresh
+-- ---- making fresh
 
 rows-same : (v p o : ℕ) → unfitRows v p o ≡ false → (p ≡ v) × (o ≡ v)
 unfolding unfitRows
@@ -88,16 +107,37 @@ rows-same v p o e =
     let b = none (not (eqb v o)) (anyOf (eqb v 0 ∷ ltb 256 v ∷ [])) (a .1) in
     (sym (eqb-true v p (not-false _ (a .0))), sym (eqb-true v o (not-false _ (b .0))))
 
-module _ (v p o : List ℕ) (h : Held) (ts : List Tx) (test : Bool) (tested : test ≡ unfitRows (length v) (length p) (length o)) where
-  pub fresh-unfit : (r : After) → test ≡ true → r ≡ after Unfit h ts → outcomeOf v p o r ≡ makeFresh (storeOf v p o h ts)
-  unfolding makeFresh
-  fresh-unfit r e q = ap (outcomeOf v p o) q ∙ rw (sym tested ∙ e)
+-- the row that a store made fresh has
+abbrev made : Renewed → List Tx → Outcome
+made x ts = outcomeOf (x .vol) (x .pers) (x .old) (storedIf (x .made .made) (replicate 64 (tx 0 Fresh)) ts) (x .made .after)
 
-  pub fresh-made : (v′ p′ o′ : List ℕ) (r : After) → test ≡ false → length ts ≡ 64
-      → v′ ≡ replicate (length v) 0 → p′ ≡ replicate (length p) 0 → o′ ≡ replicate (length o) 0 → r ≡ freshAfter
-      → outcomeOf v′ p′ o′ r ≡ makeFresh (storeOf v p o h ts)
-  unfolding makeFresh fresh
-  fresh-made v′ p′ o′ r e long a b d q =
-      let same = rows-same (length v) (length p) (length o) (sym tested ∙ e) in
-      ap (outcomeOf v′ p′ o′) q
-      ∙ rw (sym tested ∙ e, eq-eqb (length ts) 64 long, a, b, d, same .0, same .1)
+module _ (v p o : List ℕ) (h : Held) (ts : List Tx) where
+  renews : made (renewed v p o h (length ts)) ts ≡ makeFresh (storeOf v p o h ts)
+  unfolding renewed makeFresh fresh
+  renews = go (unfitRows (length v) (length p) (length o)) (eqb (length ts) 64) refl refl
+    where
+      go : (a b : Bool) → unfitRows (length v) (length p) (length o) ≡ a → eqb (length ts) 64 ≡ b
+          → made (renewed v p o h (length ts)) ts ≡ makeFresh (storeOf v p o h ts)
+      go true b e f = rw e
+      go false false e f = rw (e, f)
+      go false true e f = let same = rows-same (length v) (length p) (length o) e in rw (e, f, same .0, same .1)
+
+pub made-whole : (v p o : List ℕ) (h : Held) (ts : List Tx) {v′ p′ o′ : List ℕ} {ts₁ row : List Tx} (x : Made)
+    → renewedOf x v′ p′ o′ ≡ renewed v p o h (length ts) → row ≡ replicate 64 (tx 0 Fresh) → ts₁ ≡ storedIf (x .made) row ts
+    → outcomeOf v′ p′ o′ ts₁ (x .after) ≡ makeFresh (storeOf v p o h ts)
+made-whole v p o h ts {v′} {p′} {o′} x done blank stored =
+    ap (λ xs. outcomeOf v′ p′ o′ xs (x .after)) (stored ∙ ap (λ row. storedIf (x .made) row ts) blank)
+    ∙ ap (λ y. made y ts) done
+    ∙ renews v p o h ts
+
+-- the ways of `renew`
+module _ (v p o : List ℕ) (h : Held) (n : ℕ) {test : Bool} {x : Made}
+    (tested : test ≡ anyOf (unfitRows (length v) (length p) (length o) ∷ not (eqb n 64) ∷ [])) where
+  pub fresh-refused : test ≡ true → x ≡ record { after = record { answer = Unfit; held = h }; made = false } → renewedOf x v p o ≡ renewed v p o h n
+  unfolding renewed
+  fresh-refused e q = ap (λ (y : Made). renewedOf y v p o) q ∙ rw (sym tested ∙ e)
+
+  pub fresh-done : {v′ p′ o′ : List ℕ} {h′ : Held} → test ≡ false → v′ ≡ replicate (length v) 0 → p′ ≡ replicate (length p) 0 → o′ ≡ replicate (length o) 0
+      → h′ ≡ freshHeld → x ≡ record { after = record { answer = Taken 0; held = h′ }; made = true } → renewedOf x v′ p′ o′ ≡ renewed v p o h n
+  unfolding renewed
+  fresh-done {v′} {p′} {o′} e a b d new q = ap (λ (y : Made). renewedOf y v′ p′ o′) q ∙ rw (sym tested ∙ e, a, b, d, new)

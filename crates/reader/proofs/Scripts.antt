@@ -1,7 +1,7 @@
 -- How a script grows, record by record: a record takes three bytes or more, so what is left is shorter, and as many turns as bytes are enough.
 -- What a header's refusal says: where it is 0 no check applies, since no check has the number 0; else it is the first that applies.
 use Prim.Native.Nat.{ℕ, zero, suc, _+_, _≤_, _<_}
-use mathlib.Core.Path.{_≡_, refl, sym, ap, _∙_}
+use mathlib.Core.Path.{_≡_, refl, sym, ap, subst, _∙_}
 use mathlib.Core.Bool.{Bool, true, false, not}
 use mathlib.Core.Logic.{_⊎_, inl, inr}
 use mathlib.Core.List.{List, [], _∷_}
@@ -29,6 +29,9 @@ stops-not e = let z : _≡_ {A = ℕ} 0 1 = cc in absurd (omega arith)
 does-bytes : {c d : Call} {k n : ℕ} → does c k ≡ does d n → n ≡ k
 does-bytes e = cc
 
+does-call : {c d : Call} {k n : ℕ} → does c k ≡ does d n → c ≡ d
+does-call e = cc
+
 kind-bytes : (ks : List Kind) (body : List ℕ) (c : Call) (k : ℕ) → ofKind ks body ≡ does c k → k ≡ 2 + length body
 unfolding ofKind
 kind-bytes [] body c k = stops-not
@@ -54,6 +57,31 @@ found-bytes bs c k =
         let g : 2 + two bs 0 ≤ length bs = ltb-false (length bs) (2 + two bs 0) room in
         let l = length-take-le (two bs 0) (drop 2 bs) (rw (length-drop 2 bs) (omega arith)) in
         (omega arith, omega arith)
+
+-- what holds of every call that the table's rows ask for
+abbrev pub AllAsk : (Call → Type 0) → List Kind → Type 0
+AllAsk P [] = Unit
+AllAsk P (x ∷ xs) = ((body : List ℕ) → P (x .asks body)) × AllAsk P xs
+
+kind-asks : (P : Call → Type 0) (xs : List Kind) (body : List ℕ) (c : Call) (k : ℕ) → AllAsk P xs → ofKind xs body ≡ does c k → P c
+unfolding ofKind
+kind-asks P [] body c k all = stops-not
+kind-asks P (x ∷ xs) body c k all =
+    let Q : Found → Type 0 = λ f. (f ≡ does c k → P c) in
+    pick-case Q (eqb (byte body 0) (x .number))
+    (λ e. pick-case Q (eqb (length body) (x .long)) (λ e q. subst P (does-call q) (all .0 body)) (λ e. stops-not))
+    (λ e. kind-asks P xs body c k (all .1))
+
+-- holds of a record's call
+pub found-asks : (P : Call → Type 0) (bs : List ℕ) (c : Call) (k : ℕ) → AllAsk P kinds → found bs ≡ does c k → P c
+unfolding found
+found-asks P bs c k all =
+    let Q : Found → Type 0 = λ f. (f ≡ does c k → P c) in
+    pick-case Q (eqb (length bs) 0) (λ e. end-not)
+    (λ e. pick-case Q (ltb (length bs) 2) (λ e. stops-not)
+    (λ e. pick-case Q (eqb (two bs 0) 0) (λ e. stops-not)
+    (λ e. pick-case Q (ltb (length bs) (2 + two bs 0)) (λ e. stops-not)
+    (λ e. kind-asks P kinds _ c k all))))
 
 -- ---- the script
 

@@ -1,23 +1,12 @@
 -- What the reader gives back, as the definitions of the trace have it.
 use Prim.Native.Nat.{ℕ}
 use mathlib.Core.List.{List}
-use Rattle.dtml.specs.Checks.{first, begin, read, write, commit, step, flush, crash, recover, Call, on, sys}
-use Rattle.reader.specs.declared.Act.{Act}
-use Rattle.reader.specs.declared.Act.the-variants.{Begin, Read, Write, Commit, Step, Flush, Crash, Recover}
+use Rattle.dtml.specs.Checks.{first}
+use Rattle.dtml.specs.Acts.{callOf}
 use Rattle.reader.specs.declared.Item.{Item}
 use Rattle.reader.specs.declared.Item.the-variants.{End, Stops, Does}
 use Rattle.reader.specs.declared.Header.{Header}
 use Rattle.reader.specs.Trace.{Found, end, stops, does, headerChecks, wordsOf}
-
-abbrev pub callOf : Act → Call
-callOf (Begin id) = on id begin
-callOf (Read id w) = on id (read w)
-callOf (Write id w v) = on id (write w v)
-callOf (Commit id) = on id commit
-callOf (Step id) = on id step
-callOf (Flush w) = sys (flush w)
-callOf Crash = sys crash
-callOf Recover = sys recover
 
 abbrev pub foundOf : Item → Found
 foundOf End = end

@@ -1,6 +1,6 @@
 // A record's body by the table of kinds, and the numbers in it.
-use crate::Act;
 use crate::Item;
+use dtml::Act;
 ghost use Prim.Native.Nat.{_+_, _<_};
 ghost use mathlib.Core.Path.{_≡_};
 ghost use lib.ListN.{length};

@@ -1,18 +1,9 @@
 // Reads a trace: its header, and the record at a place of it.
 mod decode;
+pub mod place;
 pub mod trace;
 
-// What a record of the trace asks of the machine.
-pub enum Act {
-    Begin { id: u64 },
-    Read { id: u64, word: u64 },
-    Write { id: u64, word: u64, value: u32 },
-    Commit { id: u64 },
-    Step { id: u64 },
-    Flush { word: u64 },
-    Crash,
-    Recover,
-}
+use dtml::Act;
 
 // What stands at a place of the trace: its end, a record that is refused, or one of so many bytes, its length bytes among them, with what it asks.
 pub enum Item {

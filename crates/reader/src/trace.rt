@@ -46,7 +46,7 @@ pub fn header(trace: &[u8]) -> Header
 }
 
 // The record at a place; past the trace's end there is none.
-pub fn item_at(trace: &[u8], at: usize) -> Item
+pub(crate) fn item_at(trace: &[u8], at: usize) -> Item
     ensures { λ r. ⌜ foundOf r ≡ found (drop at (now (trace .entry))) ⌝ }
 {
     if trace.len() <= at {

@@ -1,12 +1,10 @@
 // Replays the trace that stands on standard input, on a store of its own, and writes what document 01 has it print.
-use dtml::Phase;
 use dtml::Recovery;
-use dtml::Tx;
 use libc::STDIN_FILENO;
 use libc::STDOUT_FILENO;
 use machine::Held;
 use reader::trace::header;
-use trace::replay;
+use trace::replay_beside;
 ghost use mathlib.Core.Path.{_≡_};
 ghost use mathlib.Core.List.{_++_};
 ghost use lib.ListN.{length, drop};
@@ -28,21 +26,18 @@ fn report(trace: &[u8], out: &mut [u8]) -> usize
         glb: 0,
         recovery: Recovery::Idle,
     };
-    let tx = Tx {
-        loc: 0,
-        phase: Phase::Fresh,
-    };
     let n = header(trace).words;
-    let done = replay(
+    let done = replay_beside(
         trace,
         &mut vol[..n],
         &mut pers[..n],
         &mut old[..n],
         held,
-        [tx; 64],
+        64,
         out,
     );
-    done.length
+    let ended = done.ended;
+    ended.length
 }
 
 // Room for any text.

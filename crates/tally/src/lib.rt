@@ -1,15 +1,16 @@
 // What one record of a trace adds to the numbers of the T line.
+use dtml::Act;
 use dtml::Answer;
 use dtml::Recovery;
 use marks::Marks;
 use parts::answer::number;
+use parts::answer::value;
 use parts::fit::not_idle;
-use reader::Act;
 ghost use mathlib.Core.Path.{_≡_};
 ghost use Rattle.bits.specs.Marks.{pick, countOf};
 ghost use Rattle.dtml.specs.Table.{reply};
+ghost use Rattle.dtml.specs.Acts.{callOf};
 ghost use Rattle.dtml.specs.Counting.{crashesIn, linesIn, cutIn};
-ghost use Rattle.reader.specs.Said.{callOf};
 ghost use Rattle.tally.specs.Tally.{committedIn};
 
 pub fn crashes_in(act: Act) -> u64
@@ -28,14 +29,15 @@ pub fn crashes_in(act: Act) -> u64
         Act::Flush { word: _ } => 0,
         Act::Crash => 1,
         Act::Recover => 0,
+        Act::RecoverUpTo { allowance: _ } => 0,
     }
 }
 
-// A recovery line, unless it was refused.
-fn line_unless(refused: bool) -> u64
-    ensures { λ r. ⌜ r ≡ pick refused 0 1 ⌝ }
+// So many recovery lines, unless the call was refused.
+fn lines_unless(refused: bool, lines: u64) -> u64
+    ensures { λ r. ⌜ r ≡ pick refused 0 lines ⌝ }
 {
-    if refused { 0 } else { 1 }
+    if refused { 0 } else { lines }
 }
 
 pub fn lines_in(act: Act, answer: Answer) -> u64
@@ -53,7 +55,8 @@ pub fn lines_in(act: Act, answer: Answer) -> u64
         Act::Step { id: _ } => 0,
         Act::Flush { word: _ } => 0,
         Act::Crash => 0,
-        Act::Recover => line_unless(9 <= number(answer)),
+        Act::Recover => lines_unless(9 <= number(answer), 1),
+        Act::RecoverUpTo { allowance: _ } => lines_unless(9 <= number(answer), value(answer)),
     }
 }
 
@@ -80,6 +83,7 @@ pub fn cut_in(act: Act, recovery: Recovery, marks: Marks) -> u64
         Act::Flush { word: _ } => 0,
         Act::Crash => cut_unless(not_idle(recovery), marks),
         Act::Recover => 0,
+        Act::RecoverUpTo { allowance: _ } => 0,
     }
 }
 

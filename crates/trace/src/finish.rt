@@ -1,16 +1,22 @@
 // The end of a replay, and its last lines.
+use day::Ended;
 use day::Replayed;
 use day::Totals;
 use dtml::Recovery;
 use dtml::Tx;
 use machine::Held;
+use machine::work::blank;
 use marks::Marks;
 use text::put_stop;
 use text::put_totals;
 ghost use Prim.Native.Nat.{_+_, _<_};
 ghost use mathlib.Core.Path.{_≡_};
+ghost use mathlib.Core.Bool.{true, false};
+ghost use lib.ListN.{replicate};
 ghost use lib.Dec.{eqb};
 ghost use Rattle.bits.specs.Marks.{pick};
+ghost use Rattle.dtml.specs.declared.Phase.the-variants.{Fresh};
+ghost use Rattle.dtml.specs.Store.{tx as txOf};
 ghost use Rattle.text.specs.Buffer.{buffer, puts};
 ghost use Rattle.day.specs.Replay.{totals as totalsFrom, stopText, endText};
 
@@ -70,19 +76,17 @@ pub(crate) fn ended(
     number: u64,
     totals: Totals,
     held: Held,
-    txs: [Tx; 64],
-) -> Replayed
-    ensures { λ r. ⌜ (r ≡ record { refusal = refusal; number = number; totals = totals; length = r .length; held = held; txs = txs })
+) -> Ended
+    ensures { λ r. ⌜ (r ≡ record { refusal = refusal; number = number; totals = totals; length = r .length; held = held })
         × (buffer (now (out .exit)) (r .length) ≡ puts (buffer (now (out .entry)) at) (endText refusal number totals)) ⌝ }
 {
     let length = put_end(out, at, refusal, number, totals);
-    Replayed {
+    Ended {
         refusal,
         number,
         totals,
         length,
         held,
-        txs,
     }
 }
 
@@ -95,10 +99,9 @@ pub(crate) fn over(
     marks: Marks,
     glb: u32,
     recovery: Recovery,
-    txs: [Tx; 64],
-) -> Replayed
+) -> Ended
     requires { ⌜ totals .records < 65536 ⌝ }
-    ensures { λ r. ⌜ (r ≡ record { refusal = refusal; number = pick (eqb refusal 0) 0 (totals .records + 1); totals = totals; length = r .length; held = record { marks = marks; glb = glb; recovery = recovery }; txs = txs })
+    ensures { λ r. ⌜ (r ≡ record { refusal = refusal; number = pick (eqb refusal 0) 0 (totals .records + 1); totals = totals; length = r .length; held = record { marks = marks; glb = glb; recovery = recovery } })
         × (buffer (now (out .exit)) (r .length) ≡ puts (buffer (now (out .entry)) at) (endText refusal (pick (eqb refusal 0) 0 (totals .records + 1)) totals)) ⌝ }
 {
     let number = stopped_at(refusal, totals.records);
@@ -107,5 +110,28 @@ pub(crate) fn over(
         glb,
         recovery,
     };
-    ended(out, at, refusal, number, totals, held, txs)
+    ended(out, at, refusal, number, totals, held)
+}
+
+// The row of records is to be these.
+pub(crate) fn changed(ended: Ended, txs: [Tx; 64]) -> Replayed
+    ensures { λ r. ⌜ r ≡ record { ended = ended; changed = true; txs = txs } ⌝ }
+{
+    Replayed {
+        ended,
+        changed: true,
+        txs,
+    }
+}
+
+// The row of records stays as it is.
+pub(crate) fn kept(ended: Ended) -> Replayed
+    ensures { λ r. ⌜ r ≡ record { ended = ended; changed = false; txs = replicate 64 (txOf 0 Fresh) } ⌝ }
+{
+    let txs = blank();
+    Replayed {
+        ended,
+        changed: false,
+        txs,
+    }
 }

@@ -2,7 +2,7 @@
 use mathlib.Core.Path.{refl, ap}
 use borrow.Author.Needs.{needs}
 use Rattle.doing.proofs.Carries.{nobody, on-one, on-none}
-use Rattle.reader.specs.Said.{callOf}
+use Rattle.dtml.specs.Acts.{callOf}
 use Rattle.doing.proofs.carry_out.Statement.{statement}
 use Rattle.doing.proofs.carry_out.Tie as tie
 
@@ -86,6 +86,15 @@ recover-requires c κs = search needs
 
 settled-requires-3 : tie.Need-settled-requires-3
 settled-requires-3 c κs = search needs
+
+enum-known-act-4 : tie.Need-enum-known-act-4
+enum-known-act-4 c = search needs
+
+recover-up-to-requires : tie.Need-recover-up-to-requires
+recover-up-to-requires c κs = search needs
+
+settled-requires-4 : tie.Need-settled-requires-4
+settled-requires-4 c κs = search needs
 
 same-length : tie.Need-same-length
 same-length c = search needs
@@ -231,6 +240,24 @@ returns-9 c =
     let at-args = at-identifier .before .before .before .before in
     on-none _ _ _ (at-args .args .act) _ (at-identifier .identifier .ensures) _ _ _ _ (at-if1 .if1 .left) (ap callOf (at-enum-told5 .enum-told5 .given .1)) (at-recover .recover .ensures) (c .settled3 .ensures)
 
+same-length-25 : tie.Need-same-length-25
+same-length-25 c = search needs
+
+same-length-26 : tie.Need-same-length-26
+same-length-26 c = search needs
+
+same-length-27 : tie.Need-same-length-27
+same-length-27 c = search needs
+
+returns-10 : tie.Need-returns-10
+returns-10 c =
+    let at-recover-up-to = c .before .before .before .before .before in
+    let at-act4 = at-recover-up-to .before .before .before .before .before .before .before in
+    let at-if1 = at-act4 .before .before in
+    let at-identifier = at-if1 .before in
+    let at-args = at-identifier .before .before .before .before in
+    on-none _ _ _ (at-args .args .act) _ (at-identifier .identifier .ensures) _ _ _ _ (at-if1 .if1 .left) (ap callOf (at-act4 .act4 .given .1)) (at-recover-up-to .recover-up-to .ensures) (c .settled4 .ensures)
+
 pub carry-out-spec : {M : Type 1} → statement M
 carry-out-spec =
     tie.close
@@ -261,6 +288,9 @@ carry-out-spec =
     enum-told-5
     recover-requires
     settled-requires-3
+    enum-known-act-4
+    recover-up-to-requires
+    settled-requires-4
     same-length
     same-length-2
     same-length-3
@@ -292,4 +322,8 @@ carry-out-spec =
     same-length-22
     same-length-23
     same-length-24
-    returns-9)
+    returns-9
+    same-length-25
+    same-length-26
+    same-length-27
+    returns-10)

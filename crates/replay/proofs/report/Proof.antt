@@ -1,5 +1,5 @@
 -- `replay::report` meets its contract: the rows lent are as long as the header says, and the buffer has room for the text.
-use mathlib.Core.Path.{refl, sym}
+use mathlib.Core.Path.{sym}
 use borrow.Author.Needs.{needs}
 use lib.Seq.{length-take-le}
 use Rattle.day.proofs.Shown.{few-words}
@@ -13,33 +13,33 @@ header-requires c κs = search needs
 array-borrow-prefix-vol : tie.Need-array-borrow-prefix-vol
 array-borrow-prefix-vol c = few-words _ _ (c .header .ensures)
 
-slice-aggregate-replay : tie.Need-slice-aggregate-replay
-slice-aggregate-replay c = sym (length-take-le _ _ (few-words _ _ (c .before .header .ensures)))
+slice-aggregate-replay-beside : tie.Need-slice-aggregate-replay-beside
+slice-aggregate-replay-beside c = sym (length-take-le _ _ (few-words _ _ (c .before .header .ensures)))
 
 array-borrow-prefix-pers : tie.Need-array-borrow-prefix-pers
 array-borrow-prefix-pers c = few-words _ _ (c .before .header .ensures)
 
-slice-aggregate-replay-2 : tie.Need-slice-aggregate-replay-2
-slice-aggregate-replay-2 c = sym (length-take-le _ _ (few-words _ _ (c .before .before .header .ensures)))
+slice-aggregate-replay-beside-2 : tie.Need-slice-aggregate-replay-beside-2
+slice-aggregate-replay-beside-2 c = sym (length-take-le _ _ (few-words _ _ (c .before .before .header .ensures)))
 
 array-borrow-prefix-old : tie.Need-array-borrow-prefix-old
 array-borrow-prefix-old c = few-words _ _ (c .before .before .header .ensures)
 
-slice-aggregate-replay-3 : tie.Need-slice-aggregate-replay-3
-slice-aggregate-replay-3 c = sym (length-take-le _ _ (few-words _ _ (c .before .before .before .header .ensures)))
+slice-aggregate-replay-beside-3 : tie.Need-slice-aggregate-replay-beside-3
+slice-aggregate-replay-beside-3 c = sym (length-take-le _ _ (few-words _ _ (c .before .before .before .header .ensures)))
 
-replay-requires : tie.Need-replay-requires
-replay-requires c κs = search needs
+replay-beside-requires : tie.Need-replay-beside-requires
+replay-beside-requires c κs = search needs
 
 same-length : tie.Need-same-length
 same-length c = search needs
 
 returns : tie.Need-returns
 returns c =
-    let at-replay = c .before .before .before .before .before in
-    let at-header = at-replay .before .before .before .before .before in
+    let at-replay-beside = c .before .before .before .before .before .before in
+    let at-header = at-replay-beside .before .before .before .before .before in
     let at-pre = at-header .before .before .before in
-    reports _ _ _ _ _ _ _ _ _ _ _ _ (at-replay .replay .result) (at-header .header .ensures) refl (sym (length-take-le _ _ (few-words _ _ (at-header .header .ensures)))) (sym (length-take-le _ _ (few-words _ _ (at-header .header .ensures)))) (sym (length-take-le _ _ (few-words _ _ (at-header .header .ensures)))) (at-pre .pre) (at-replay .replay .ensures)
+    reports _ _ _ _ _ _ _ _ _ _ _ (at-replay-beside .replay-beside .result) (at-header .header .ensures) (sym (length-take-le _ _ (few-words _ _ (at-header .header .ensures)))) (sym (length-take-le _ _ (few-words _ _ (at-header .header .ensures)))) (sym (length-take-le _ _ (few-words _ _ (at-header .header .ensures)))) (at-pre .pre) (at-replay-beside .replay-beside .ensures)
 
 pub report-spec : {M : Type 1} → statement M
 report-spec =
@@ -47,11 +47,11 @@ report-spec =
     (tie.spec
     header-requires
     array-borrow-prefix-vol
-    slice-aggregate-replay
+    slice-aggregate-replay-beside
     array-borrow-prefix-pers
-    slice-aggregate-replay-2
+    slice-aggregate-replay-beside-2
     array-borrow-prefix-old
-    slice-aggregate-replay-3
-    replay-requires
+    slice-aggregate-replay-beside-3
+    replay-beside-requires
     same-length
     returns)

@@ -33,6 +33,9 @@ cut-unless-requires c κs = search needs
 enum-told-8 : tie.Need-enum-told-8
 enum-told-8 c = search needs
 
+enum-told-9 : tie.Need-enum-told-9
+enum-told-9 c = search needs
+
 returns : tie.Need-returns
 returns c = search needs
 
@@ -52,10 +55,16 @@ returns-6 : tie.Need-returns-6
 returns-6 c = search needs
 
 returns-7 : tie.Need-returns-7
-returns-7 c = rw (c .cut-unless .ensures, c .before .not-idle .ensures, c .before .before .enum-told7 .given .1)
+returns-7 c =
+    let at-not-idle = c .before in
+    let at-enum-told7 = at-not-idle .before in
+    rw (c .cut-unless .ensures, at-not-idle .not-idle .ensures, at-enum-told7 .enum-told7 .given .1)
 
 returns-8 : tie.Need-returns-8
 returns-8 c = search needs
+
+returns-9 : tie.Need-returns-9
+returns-9 c = search needs
 
 pub cut-in-spec : {M : Type 1} → statement M
 cut-in-spec =
@@ -71,6 +80,7 @@ cut-in-spec =
     not-idle-requires
     cut-unless-requires
     enum-told-8
+    enum-told-9
     returns
     returns-2
     returns-3
@@ -78,4 +88,5 @@ cut-in-spec =
     returns-5
     returns-6
     returns-7
-    returns-8)
+    returns-8
+    returns-9)

@@ -1,4 +1,4 @@
--- `tally::lines_in` meets its contract: only a recovery call that was not refused is a line.
+-- `tally::lines_in` meets its contract: only a recovery call that was not refused has lines.
 use borrow.Author.Needs.{needs}
 use Rattle.tally.proofs.lines_in.Statement.{statement}
 use Rattle.tally.proofs.lines_in.Tie as tie
@@ -30,8 +30,20 @@ enum-told-8 c = search needs
 number-requires : tie.Need-number-requires
 number-requires c κs = search needs
 
-line-unless-requires : tie.Need-line-unless-requires
-line-unless-requires c κs = search needs
+lines-unless-requires : tie.Need-lines-unless-requires
+lines-unless-requires c κs = search needs
+
+enum-told-9 : tie.Need-enum-told-9
+enum-told-9 c = search needs
+
+number-requires-2 : tie.Need-number-requires-2
+number-requires-2 c κs = search needs
+
+value-requires : tie.Need-value-requires
+value-requires c κs = search needs
+
+lines-unless-requires-2 : tie.Need-lines-unless-requires-2
+lines-unless-requires-2 c κs = search needs
 
 returns : tie.Need-returns
 returns c = search needs
@@ -55,7 +67,17 @@ returns-7 : tie.Need-returns-7
 returns-7 c = search needs
 
 returns-8 : tie.Need-returns-8
-returns-8 c = rw (c .line-unless .ensures, c .before .number .ensures, c .before .before .enum-told8 .given .1)
+returns-8 c =
+    let at-number = c .before in
+    let at-enum-told8 = at-number .before in
+    rw (c .lines-unless .ensures, at-number .number .ensures, at-enum-told8 .enum-told8 .given .1)
+
+returns-9 : tie.Need-returns-9
+returns-9 c =
+    let at-value = c .before in
+    let at-number2 = at-value .before in
+    let at-enum-told9 = at-number2 .before in
+    rw (c .lines-unless2 .ensures, at-number2 .number2 .ensures, at-value .value .ensures, at-enum-told9 .enum-told9 .given .1)
 
 pub lines-in-spec : {M : Type 1} → statement M
 lines-in-spec =
@@ -70,7 +92,11 @@ lines-in-spec =
     enum-told-7
     enum-told-8
     number-requires
-    line-unless-requires
+    lines-unless-requires
+    enum-told-9
+    number-requires-2
+    value-requires
+    lines-unless-requires-2
     returns
     returns-2
     returns-3
@@ -78,4 +104,5 @@ lines-in-spec =
     returns-5
     returns-6
     returns-7
-    returns-8)
+    returns-8
+    returns-9)
