@@ -1,0 +1,4 @@
+pub mod Fours
+pub mod Again
+pub mod Beside
+pub mod Whole
