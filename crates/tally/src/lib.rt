@@ -5,7 +5,7 @@ use dtml::Recovery;
 use marks::Marks;
 use parts::answer::number;
 use parts::answer::value;
-use parts::fit::not_idle;
+use stages::not_idle;
 ghost use mathlib.Core.Path.{_≡_};
 ghost use Rattle.bits.specs.Marks.{pick, countOf};
 ghost use Rattle.dtml.specs.Table.{reply};

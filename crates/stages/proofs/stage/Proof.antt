@@ -1,7 +1,7 @@
--- `parts::fit::stage` meets its contract: in each arm the phase is that arm's, and the definition's clause for it computes.
+-- `stages::stage` meets its contract: in each arm the phase is that arm's, and the definition's clause for it computes.
 use borrow.Author.Needs.{needs}
-use Rattle.parts.proofs.fit.stage.Statement.{statement}
-use Rattle.parts.proofs.fit.stage.Tie as tie
+use Rattle.stages.proofs.stage.Statement.{statement}
+use Rattle.stages.proofs.stage.Tie as tie
 
 enum-told : tie.Need-enum-told
 enum-told c = search needs
