@@ -1,47 +1,15 @@
-// The calls of the step machine for a host in another language, such as C or Rust: numbers and rows of numbers are all that it hands over.
+// The calls on a transaction's record for a host in another language, such as C or Rust: numbers and rows of numbers are all that it hands over.
 // A row passes as a pointer and a length, and the rows of a call may not overlap. `numbers/specs/Numbers.antt` says how a store is spelled by the five rows: the
 // three of words, 8 numbers beside them and 256 for the records; any lengths and any numbers may be handed over, and those that spell no store are answered 9.
-// Each call gives the answer's number. Its value is 0 but for a step and the call with an allowance, so only these two take a row for it: the value is put
-// into the row's first number, if there is one.
+// Each call gives the answer's number. Its value is 0 but for a step, so only a step takes a row for it: the value is put into the row's first number, if there
+// is one.
 use dtml::Act;
+use numbers::asked;
 use numbers::call;
-use numbers::make_fresh;
 ghost use mathlib.Core.Path.{_≡_};
 ghost use mathlib.Core.List.{[]};
-ghost use Rattle.dtml.specs.Acts.{callOf};
-ghost use Rattle.dtml.specs.Checks.{begin, read, write, commit, step, flush, crash, recover, recoverUpTo, on, sys};
-ghost use Rattle.numbers.specs.Numbers.{rows, callNumbers, freshNumbers, given, gives};
-
-// A call whose value is not asked for.
-fn called(
-    vol: &mut [u32],
-    pers: &mut [u32],
-    old: &mut [u32],
-    held: &mut [u64],
-    records: &mut [u32],
-    act: Act,
-) -> u64
-    ensures { λ r. ⌜ given r [] (rows (now (vol .exit)) (now (pers .exit)) (now (old .exit)) (now (held .exit)) (now (records .exit)))
-        ≡ gives [] (callNumbers (rows (now (vol .entry)) (now (pers .entry)) (now (old .entry)) (now (held .entry)) (now (records .entry))) (callOf act)) ⌝ }
-{
-    let mut value = [0u64; 1];
-    call(vol, pers, old, held, records, act, &mut value)
-}
-
-// Makes the store fresh, whatever the numbers were; answers 9 to rows of the wrong length.
-#[no_mangle]
-pub extern "C" fn register_make_fresh(
-    vol: &mut [u32],
-    pers: &mut [u32],
-    old: &mut [u32],
-    held: &mut [u64],
-    records: &mut [u32],
-) -> u64
-    ensures { λ r. ⌜ given r [] (rows (now (vol .exit)) (now (pers .exit)) (now (old .exit)) (now (held .exit)) (now (records .exit)))
-        ≡ gives [] (freshNumbers (rows (now (vol .entry)) (now (pers .entry)) (now (old .entry)) (now (held .entry)) (now (records .entry)))) ⌝ }
-{
-    make_fresh(vol, pers, old, held, records)
-}
+ghost use Rattle.dtml.specs.Checks.{begin, read, write, commit, step, on};
+ghost use Rattle.numbers.specs.Numbers.{rows, callNumbers, given, gives};
 
 #[no_mangle]
 pub extern "C" fn register_begin(
@@ -55,7 +23,7 @@ pub extern "C" fn register_begin(
     ensures { λ r. ⌜ given r [] (rows (now (vol .exit)) (now (pers .exit)) (now (old .exit)) (now (held .exit)) (now (records .exit)))
         ≡ gives [] (callNumbers (rows (now (vol .entry)) (now (pers .entry)) (now (old .entry)) (now (held .entry)) (now (records .entry))) (on id begin)) ⌝ }
 {
-    called(vol, pers, old, held, records, Act::Begin { id })
+    asked(vol, pers, old, held, records, Act::Begin { id })
 }
 
 #[no_mangle]
@@ -71,7 +39,7 @@ pub extern "C" fn register_read(
     ensures { λ r. ⌜ given r [] (rows (now (vol .exit)) (now (pers .exit)) (now (old .exit)) (now (held .exit)) (now (records .exit)))
         ≡ gives [] (callNumbers (rows (now (vol .entry)) (now (pers .entry)) (now (old .entry)) (now (held .entry)) (now (records .entry))) (on id (read word))) ⌝ }
 {
-    called(vol, pers, old, held, records, Act::Read { id, word })
+    asked(vol, pers, old, held, records, Act::Read { id, word })
 }
 
 #[no_mangle]
@@ -88,7 +56,7 @@ pub extern "C" fn register_write(
     ensures { λ r. ⌜ given r [] (rows (now (vol .exit)) (now (pers .exit)) (now (old .exit)) (now (held .exit)) (now (records .exit)))
         ≡ gives [] (callNumbers (rows (now (vol .entry)) (now (pers .entry)) (now (old .entry)) (now (held .entry)) (now (records .entry))) (on id (write word value))) ⌝ }
 {
-    called(
+    asked(
         vol,
         pers,
         old,
@@ -110,7 +78,7 @@ pub extern "C" fn register_commit(
     ensures { λ r. ⌜ given r [] (rows (now (vol .exit)) (now (pers .exit)) (now (old .exit)) (now (held .exit)) (now (records .exit)))
         ≡ gives [] (callNumbers (rows (now (vol .entry)) (now (pers .entry)) (now (old .entry)) (now (held .entry)) (now (records .entry))) (on id commit)) ⌝ }
 {
-    called(vol, pers, old, held, records, Act::Commit { id })
+    asked(vol, pers, old, held, records, Act::Commit { id })
 }
 
 // One line of a transaction; the value is what was read, if the answer is 2.
@@ -128,73 +96,4 @@ pub extern "C" fn register_step(
         ≡ gives (now (value .entry)) (callNumbers (rows (now (vol .entry)) (now (pers .entry)) (now (old .entry)) (now (held .entry)) (now (records .entry))) (on id step)) ⌝ }
 {
     call(vol, pers, old, held, records, Act::Step { id }, value)
-}
-
-#[no_mangle]
-pub extern "C" fn register_flush(
-    vol: &mut [u32],
-    pers: &mut [u32],
-    old: &mut [u32],
-    held: &mut [u64],
-    records: &mut [u32],
-    word: u64,
-) -> u64
-    ensures { λ r. ⌜ given r [] (rows (now (vol .exit)) (now (pers .exit)) (now (old .exit)) (now (held .exit)) (now (records .exit)))
-        ≡ gives [] (callNumbers (rows (now (vol .entry)) (now (pers .entry)) (now (old .entry)) (now (held .entry)) (now (records .entry))) (sys (flush word))) ⌝ }
-{
-    called(vol, pers, old, held, records, Act::Flush { word })
-}
-
-#[no_mangle]
-pub extern "C" fn register_crash(
-    vol: &mut [u32],
-    pers: &mut [u32],
-    old: &mut [u32],
-    held: &mut [u64],
-    records: &mut [u32],
-) -> u64
-    ensures { λ r. ⌜ given r [] (rows (now (vol .exit)) (now (pers .exit)) (now (old .exit)) (now (held .exit)) (now (records .exit)))
-        ≡ gives [] (callNumbers (rows (now (vol .entry)) (now (pers .entry)) (now (old .entry)) (now (held .entry)) (now (records .entry))) (sys crash)) ⌝ }
-{
-    called(vol, pers, old, held, records, Act::Crash)
-}
-
-// One line of recovery.
-#[no_mangle]
-pub extern "C" fn register_recover(
-    vol: &mut [u32],
-    pers: &mut [u32],
-    old: &mut [u32],
-    held: &mut [u64],
-    records: &mut [u32],
-) -> u64
-    ensures { λ r. ⌜ given r [] (rows (now (vol .exit)) (now (pers .exit)) (now (old .exit)) (now (held .exit)) (now (records .exit)))
-        ≡ gives [] (callNumbers (rows (now (vol .entry)) (now (pers .entry)) (now (old .entry)) (now (held .entry)) (now (records .entry))) (sys recover)) ⌝ }
-{
-    called(vol, pers, old, held, records, Act::Recover)
-}
-
-// As many recovery lines as the allowance, or all that are left if those are fewer; the value is how many were carried out.
-#[no_mangle]
-pub extern "C" fn register_recover_up_to(
-    vol: &mut [u32],
-    pers: &mut [u32],
-    old: &mut [u32],
-    held: &mut [u64],
-    records: &mut [u32],
-    allowance: u64,
-    value: &mut [u64],
-) -> u64
-    ensures { λ r. ⌜ given r (now (value .exit)) (rows (now (vol .exit)) (now (pers .exit)) (now (old .exit)) (now (held .exit)) (now (records .exit)))
-        ≡ gives (now (value .entry)) (callNumbers (rows (now (vol .entry)) (now (pers .entry)) (now (old .entry)) (now (held .entry)) (now (records .entry))) (sys (recoverUpTo allowance))) ⌝ }
-{
-    call(
-        vol,
-        pers,
-        old,
-        held,
-        records,
-        Act::RecoverUpTo { allowance },
-        value,
-    )
 }

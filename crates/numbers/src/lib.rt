@@ -67,6 +67,22 @@ pub fn call(
     answered(value, answer)
 }
 
+// A call whose value is not asked for.
+pub fn asked(
+    vol: &mut [u32],
+    pers: &mut [u32],
+    old: &mut [u32],
+    held: &mut [u64],
+    records: &mut [u32],
+    act: Act,
+) -> u64
+    ensures { λ r. ⌜ given r [] (rows (now (vol .exit)) (now (pers .exit)) (now (old .exit)) (now (held .exit)) (now (records .exit)))
+        ≡ gives [] (callNumbers (rows (now (vol .entry)) (now (pers .entry)) (now (old .entry)) (now (held .entry)) (now (records .entry))) (callOf act)) ⌝ }
+{
+    let mut value = [0u64; 1];
+    call(vol, pers, old, held, records, act, &mut value)
+}
+
 // Makes the store fresh, whatever the numbers were. The answer's value is always 0.
 pub fn make_fresh(
     vol: &mut [u32],

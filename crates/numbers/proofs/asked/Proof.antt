@@ -1,10 +1,10 @@
--- `calls::called` meets its contract: what `numbers::call` promises, without the row for the value.
+-- `numbers::asked` meets its contract: what `call` promises, without the row for the value.
 use mathlib.Core.List.{[]}
 use mathlib.Core.Path.{ap}
 use borrow.Author.Needs.{needs}
 use Rattle.numbers.specs.Numbers.{Given, given}
-use Rattle.calls.proofs.called.Statement.{statement}
-use Rattle.calls.proofs.called.Tie as tie
+use Rattle.numbers.proofs.asked.Statement.{statement}
+use Rattle.numbers.proofs.asked.Tie as tie
 
 slice-aggregate-call : tie.Need-slice-aggregate-call
 slice-aggregate-call c = search needs
@@ -30,8 +30,8 @@ same-length-5 c = search needs
 returns : tie.Need-returns
 returns c = ap (λ (g : Given). given (g .number) [] (g .rows)) (c .before .before .before .before .before .before .before .before .before .before .before .call .ensures)
 
-pub called-spec : {M : Type 1} → statement M
-called-spec =
+pub asked-spec : {M : Type 1} → statement M
+asked-spec =
     tie.close
     (tie.spec
     slice-aggregate-call
