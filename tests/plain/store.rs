@@ -483,8 +483,8 @@ pub fn recover(s: &mut Store) -> Answer {
 }
 
 /// Recovery with an allowance: b lines, or all that are left up to and with C6.
-/// No trace has this call, only the tests.
-#[cfg(test)]
+/// No trace has this call, so the program has no use for it.
+#[allow(dead_code)]
 pub fn recover_up_to(s: &mut Store, b: u64) -> Answer {
     if !fit(s) {
         return (9, 0);
