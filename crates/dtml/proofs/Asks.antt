@@ -1,6 +1,6 @@
 -- An invocation moves the record of a fresh or a ready transaction to its first line, and its tale says what was asked.
 use Prim.Native.Nat.{ℕ, _<_}
-use mathlib.Core.Path.{_≡_, refl, sym, subst}
+use mathlib.Core.Path.{_≡_, refl, subst}
 use mathlib.Core.Bool.{true, false}
 use mathlib.Core.List.{List}
 use lib.ListN.{set}
@@ -13,50 +13,49 @@ use Rattle.dtml.specs.Lines.{stage}
 use Rattle.dtml.specs.Checks.{Ask, notIdle, isNew, isWaiting}
 use Rattle.dtml.specs.History.{Tale, Past, last, taleAt, begins, asks}
 use Rattle.dtml.proofs.Invariant.{Free, Plain, Current, Owner, Clean, Ender, Inv}
-use Rattle.dtml.proofs.Words.{true-not-false}
 use Rattle.dtml.proofs.Roles.{Role, free, owner, ender, role}
 use Rattle.dtml.proofs.FreeLines.{moved}
 use Rattle.dtml.proofs.OwnerLines.{stays}
 
 pub new-fresh : (p : Phase) → isNew (stage p) ≡ true → p ≡ Fresh
 new-fresh Fresh h = refl
-new-fresh Ready h = absurd (true-not-false refl (sym h))
-new-fresh Committed h = absurd (true-not-false refl (sym h))
-new-fresh Aborted h = absurd (true-not-false refl (sym h))
-new-fresh B1 h = absurd (true-not-false refl (sym h))
-new-fresh B2 h = absurd (true-not-false refl (sym h))
-new-fresh (R1 w) h = absurd (true-not-false refl (sym h))
-new-fresh (R2 v) h = absurd (true-not-false refl (sym h))
-new-fresh (W1 w v) h = absurd (true-not-false refl (sym h))
-new-fresh (W2 w v) h = absurd (true-not-false refl (sym h))
-new-fresh (W3 w v) h = absurd (true-not-false refl (sym h))
-new-fresh (W4 w v) h = absurd (true-not-false refl (sym h))
-new-fresh (W5 w v) h = absurd (true-not-false refl (sym h))
-new-fresh (W6 w v) h = absurd (true-not-false refl (sym h))
-new-fresh (W7 w) h = absurd (true-not-false refl (sym h))
-new-fresh E1 h = absurd (true-not-false refl (sym h))
-new-fresh E2 h = absurd (true-not-false refl (sym h))
-new-fresh E3 h = absurd (true-not-false refl (sym h))
+new-fresh Ready h = cc
+new-fresh Committed h = cc
+new-fresh Aborted h = cc
+new-fresh B1 h = cc
+new-fresh B2 h = cc
+new-fresh (R1 w) h = cc
+new-fresh (R2 v) h = cc
+new-fresh (W1 w v) h = cc
+new-fresh (W2 w v) h = cc
+new-fresh (W3 w v) h = cc
+new-fresh (W4 w v) h = cc
+new-fresh (W5 w v) h = cc
+new-fresh (W6 w v) h = cc
+new-fresh (W7 w) h = cc
+new-fresh E1 h = cc
+new-fresh E2 h = cc
+new-fresh E3 h = cc
 
 pub waiting-ready : (p : Phase) → isWaiting (stage p) ≡ true → p ≡ Ready
-waiting-ready Fresh h = absurd (true-not-false refl (sym h))
+waiting-ready Fresh h = cc
 waiting-ready Ready h = refl
-waiting-ready Committed h = absurd (true-not-false refl (sym h))
-waiting-ready Aborted h = absurd (true-not-false refl (sym h))
-waiting-ready B1 h = absurd (true-not-false refl (sym h))
-waiting-ready B2 h = absurd (true-not-false refl (sym h))
-waiting-ready (R1 w) h = absurd (true-not-false refl (sym h))
-waiting-ready (R2 v) h = absurd (true-not-false refl (sym h))
-waiting-ready (W1 w v) h = absurd (true-not-false refl (sym h))
-waiting-ready (W2 w v) h = absurd (true-not-false refl (sym h))
-waiting-ready (W3 w v) h = absurd (true-not-false refl (sym h))
-waiting-ready (W4 w v) h = absurd (true-not-false refl (sym h))
-waiting-ready (W5 w v) h = absurd (true-not-false refl (sym h))
-waiting-ready (W6 w v) h = absurd (true-not-false refl (sym h))
-waiting-ready (W7 w) h = absurd (true-not-false refl (sym h))
-waiting-ready E1 h = absurd (true-not-false refl (sym h))
-waiting-ready E2 h = absurd (true-not-false refl (sym h))
-waiting-ready E3 h = absurd (true-not-false refl (sym h))
+waiting-ready Committed h = cc
+waiting-ready Aborted h = cc
+waiting-ready B1 h = cc
+waiting-ready B2 h = cc
+waiting-ready (R1 w) h = cc
+waiting-ready (R2 v) h = cc
+waiting-ready (W1 w v) h = cc
+waiting-ready (W2 w v) h = cc
+waiting-ready (W3 w v) h = cc
+waiting-ready (W4 w v) h = cc
+waiting-ready (W5 w v) h = cc
+waiting-ready (W6 w v) h = cc
+waiting-ready (W7 w) h = cc
+waiting-ready E1 h = cc
+waiting-ready E2 h = cc
+waiting-ready E3 h = cc
 
 module _ (n : ℕ) (m : Memory) (r : Recovery) (ts : List Tx) (ks : List Tale) (past : Past) (t : ℕ) (ht : t < 64) (i : notIdle r ≡ false)
     (inv : Inv n m r ts ks (last past)) where

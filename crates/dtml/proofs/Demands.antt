@@ -35,24 +35,24 @@ use Rattle.dtml.proofs.Cost.{leftIn, idle-left, inv-left, up-to-run, su
 -- ---- 2. Committed memories
 
 e2-is : (p : Phase) → isE2 p ≡ true → p ≡ E2
-e2-is Fresh h = absurd (true-not-false refl (sym h))
-e2-is Ready h = absurd (true-not-false refl (sym h))
-e2-is Committed h = absurd (true-not-false refl (sym h))
-e2-is Aborted h = absurd (true-not-false refl (sym h))
-e2-is B1 h = absurd (true-not-false refl (sym h))
-e2-is B2 h = absurd (true-not-false refl (sym h))
-e2-is (R1 w) h = absurd (true-not-false refl (sym h))
-e2-is (R2 v) h = absurd (true-not-false refl (sym h))
-e2-is (W1 w v) h = absurd (true-not-false refl (sym h))
-e2-is (W2 w v) h = absurd (true-not-false refl (sym h))
-e2-is (W3 w v) h = absurd (true-not-false refl (sym h))
-e2-is (W4 w v) h = absurd (true-not-false refl (sym h))
-e2-is (W5 w v) h = absurd (true-not-false refl (sym h))
-e2-is (W6 w v) h = absurd (true-not-false refl (sym h))
-e2-is (W7 w) h = absurd (true-not-false refl (sym h))
-e2-is E1 h = absurd (true-not-false refl (sym h))
+e2-is Fresh h = cc
+e2-is Ready h = cc
+e2-is Committed h = cc
+e2-is Aborted h = cc
+e2-is B1 h = cc
+e2-is B2 h = cc
+e2-is (R1 w) h = cc
+e2-is (R2 v) h = cc
+e2-is (W1 w v) h = cc
+e2-is (W2 w v) h = cc
+e2-is (W3 w v) h = cc
+e2-is (W4 w v) h = cc
+e2-is (W5 w v) h = cc
+e2-is (W6 w v) h = cc
+e2-is (W7 w) h = cc
+e2-is E1 h = cc
 e2-is E2 h = refl
-e2-is E3 h = absurd (true-not-false refl (sym h))
+e2-is E3 h = cc
 
 -- an answer below 9 is that of a call that was carried out
 carried-out : (w : World) (c : Call) → number w c < 9 → Passes (checks (w .store) c) × (call (w .store) c ≡ act (w .store) c)
