@@ -12,7 +12,6 @@ use Rattle.records.specs.Row.{storedIf}
 use Rattle.machine.specs.Given.{storeOf}
 use Rattle.reader.specs.Trace.{wordsOf, headerChecks}
 use Rattle.text.specs.Buffer.{buffer, puts}
-use Rattle.day.specs.declared.Totals.{Totals}
 use Rattle.day.specs.declared.Ended.{Ended}
 use Rattle.day.specs.declared.Replayed.{Replayed}
 use Rattle.day.specs.Replay.{Ending, Replay, textOf, unfitFor, replay}

@@ -29,7 +29,7 @@ use denote.Index.{opens-slice, closes-slice}
 use denote.Signature.{Slot, plain, mutSliceOf, shrSliceOf, typesAt}
 use denote.Steps.{only, nothing, owned}
 use denote.Exit.{Last, left, yes}
-use denote.Triple.Entry.{Args, Vals}
+use denote.Triple.Entry.{Args}
 use denote.Triple.End.{Fins}
 use denote.Triple.Spec.{Meets}
 use denote.Triple.Statement.{Contract, Triple}

@@ -1,7 +1,7 @@
 -- What is done beside the row of records, put together with what the thin functions do to the row, is the call on the whole store: an unfit store is refused
 -- and its record is put back as it was; of a fit one, the call is what it does to what it is handed.
 use Prim.Native.Nat.{ℕ}
-use borrow.Author.Tests.{eq-eqb, eqb-true, not-false}
+use borrow.Author.Tests.{eqb-true, not-false}
 use mathlib.Core.Path.{_≡_, refl, sym, ap, _∙_}
 use mathlib.Core.Bool.{Bool, true, false, not}
 use mathlib.Core.List.{List, [], _∷_}

@@ -2,5 +2,5 @@ pub mod Walk
 pub mod Lent
 pub mod Again
 pub mod Calling
-mod Over
+pub mod Over
 mod Calls

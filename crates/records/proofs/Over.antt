@@ -1,7 +1,8 @@
 -- Laws of the loops over the lent row: after i turns the first i records of one list stand over those of another, or have been looked at.
-use mathlib.Core.Path.{_≡_, refl, ap}
-use Prim.Native.Nat.{ℕ, zero, suc, _≤_, _<_}
+use mathlib.Core.Path.{_≡_, refl, ap, _∙_}
+use Prim.Native.Nat.{ℕ, zero, suc, _+_, _≤_, _<_}
 use native.Mathlib.Omega.{arith}
+use native.Mathlib.Numerals.{add-one}
 use mathlib.Core.Bool.{Bool, true, false, not}
 use mathlib.Core.List.{List, [], _∷_, _++_}
 use lib.ListN.{length, take, drop, set}
@@ -80,9 +81,16 @@ crash-next [] i h = absurd (let z : i < 0 = h in omega arith)
 crash-next (y ∷ ys) zero h = refl
 crash-next (y ∷ ys) (suc i) h = ap (λ zs. crashTx y ∷ zs) (crash-next ys i (omega arith))
 
+pub crash-on : (ys : List Tx) (i : ℕ) → i < length ys
+    → set (over i (crashTxs ys) ys) i (crashTx (recordAt (over i (crashTxs ys) ys) i)) ≡ over (i + 1) (crashTxs ys) ys
+crash-on ys i h = rw (add-one i) (crash-next ys i h)
+
+pub crashed-all : (ys : List Tx) (n : ℕ) → length ys ≡ n → over n (crashTxs ys) ys ≡ crashTxs ys
+crashed-all ys n e = over-all n (crashTxs ys) ys (crashes-length ys ∙ e) e
+
 pub crashed : (cut : Bool) (ys : List Tx) → over (pick cut (length ys) 0) (crashTxs ys) ys ≡ pick cut (crashTxs ys) ys
 crashed false ys = refl
-crashed true ys = over-all (length ys) (crashTxs ys) ys (crashes-length ys) refl
+crashed true ys = crashed-all ys (length ys) refl
 
 -- ---- fitness
 pub looked-next : (n : ℕ) (ys : List Tx) (i : ℕ) → i < length ys → pick (unfitTxs n (take i ys)) true (unfitTx n (recordAt ys i)) ≡ unfitTxs n

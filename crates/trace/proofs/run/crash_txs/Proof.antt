@@ -1,22 +1,24 @@
 -- `trace::run::crash_txs` meets its contract: after i turns the first i records are crashed and the others still to be.
-use Prim.Native.Nat.{_+_, _≤_, _-_}
+use Prim.Native.Nat.{_≤_, _-_}
 use native.Mathlib.Omega.{arith}
-use mathlib.Core.Path.{_≡_, refl, sym, ap, _∙_}
+use mathlib.Core.Path.{_≡_, refl, ap, _∙_}
 use borrow.Author.Needs.{needs}
 use lib.ListN.{length, set, length-set}
-use Rattle.dtml.specs.Lines.{crashTxs}
-use Rattle.trace.proofs.Suffixes.{crashing, crash-next, crash-end}
+use Rattle.dtml.specs.Store.{recordAt}
+use Rattle.dtml.specs.Lines.{crashTx, crashTxs}
+use Rattle.dtml.proofs.Lift.{default-free}
+use Rattle.records.proofs.Over.{over, crash-on, crashed-all}
 use Rattle.trace.proofs.run.crash_txs.Statement.{statement}
 use Rattle.trace.proofs.run.crash_txs.Tie as tie
 
 abbrev Inv-loop : tie.InvT-loop
-Inv-loop next₀ i₀ next i = (i ≤ 64) × (length next ≡ 64) × (crashing i next ≡ crashTxs next₀)
+Inv-loop next₀ i₀ next i = (i ≤ 64) × (length next ≡ 64) × (length next₀ ≡ 64) × (next ≡ over i (crashTxs next₀) next₀)
 
 abbrev μ-loop : tie.MeasureT-loop
 μ-loop next₀ i₀ next i = 64 - i
 
 loop-holds : tie.Need-loop-holds Inv-loop μ-loop
-loop-holds c = (omega arith, search needs, refl)
+loop-holds c = (omega arith, search needs, search needs, refl)
 
 mul-tx : tie.Need-mul-tx Inv-loop μ-loop
 mul-tx c = omega arith
@@ -47,14 +49,17 @@ loop-again c =
     let inv = at-loop .loop .inv in (
       omega arith,
       length-set next i _ ∙ inv .1,
-      ap (λ x. crashing (i + 1) (set next i x)) (c .crash-tx .ensures) ∙ crash-next next i _ (omega arith) ∙ inv .2,
+      inv .2,
+      ap (set next i) (c .crash-tx .ensures)
+          ∙ ap (λ t. set next i (crashTx t)) (default-free next i _ (omega arith))
+          ∙ ap (λ xs. set xs i (crashTx (recordAt xs i))) (inv .3)
+          ∙ crash-on _ i (omega arith),
     )
 
 returns : tie.Need-returns Inv-loop μ-loop
 returns c =
-    let at-loop = c .before in
-    let inv = at-loop .loop .inv in
-    sym (crash-end (at-loop .loop .next) (at-loop .loop .i) (omega arith)) ∙ inv .2
+    let inv = c .before .loop .inv in
+    inv .3 ∙ crashed-all _ (c .before .loop .i) (omega arith)
 
 pub crash-txs-spec : {M : Type 1} → statement M
 crash-txs-spec =
