@@ -4,18 +4,29 @@ use crate::store::{self, Phase, Recovery, Store, Tx};
 use std::fmt::Write;
 use std::panic::{catch_unwind, AssertUnwindSafe};
 
-extern "C" {
-    // The proved calls: the rows of volatile, persistent and old words, of what is held beside them and of the records, each as pointer and length.
-    fn register_make_fresh(v: *mut u32, vs: usize, p: *mut u32, ps: usize, o: *mut u32, os: usize, h: *mut u64, hs: usize, r: *mut u32, rs: usize) -> u64;
-    fn register_begin(v: *mut u32, vs: usize, p: *mut u32, ps: usize, o: *mut u32, os: usize, h: *mut u64, hs: usize, r: *mut u32, rs: usize, id: u64) -> u64;
-    fn register_read(v: *mut u32, vs: usize, p: *mut u32, ps: usize, o: *mut u32, os: usize, h: *mut u64, hs: usize, r: *mut u32, rs: usize, id: u64, word: u64) -> u64;
-    fn register_write(v: *mut u32, vs: usize, p: *mut u32, ps: usize, o: *mut u32, os: usize, h: *mut u64, hs: usize, r: *mut u32, rs: usize, id: u64, word: u64, value: u32) -> u64;
-    fn register_commit(v: *mut u32, vs: usize, p: *mut u32, ps: usize, o: *mut u32, os: usize, h: *mut u64, hs: usize, r: *mut u32, rs: usize, id: u64) -> u64;
-    fn register_step(v: *mut u32, vs: usize, p: *mut u32, ps: usize, o: *mut u32, os: usize, h: *mut u64, hs: usize, r: *mut u32, rs: usize, id: u64, value: *mut u64, values: usize) -> u64;
-    fn register_flush(v: *mut u32, vs: usize, p: *mut u32, ps: usize, o: *mut u32, os: usize, h: *mut u64, hs: usize, r: *mut u32, rs: usize, word: u64) -> u64;
-    fn register_crash(v: *mut u32, vs: usize, p: *mut u32, ps: usize, o: *mut u32, os: usize, h: *mut u64, hs: usize, r: *mut u32, rs: usize) -> u64;
-    fn register_recover(v: *mut u32, vs: usize, p: *mut u32, ps: usize, o: *mut u32, os: usize, h: *mut u64, hs: usize, r: *mut u32, rs: usize) -> u64;
-    fn register_recover_up_to(v: *mut u32, vs: usize, p: *mut u32, ps: usize, o: *mut u32, os: usize, h: *mut u64, hs: usize, r: *mut u32, rs: usize, b: u64, value: *mut u64, values: usize) -> u64;
+/// The proved calls. Each is lent the rows of volatile, persistent and old words, of what is held beside them and of the records, as pointer and length.
+macro_rules! proved {
+    ($($name:ident($($more:ident: $type:ty),*);)*) => {
+        extern "C" {
+            $(fn $name(
+                v: *mut u32, vs: usize, p: *mut u32, ps: usize, o: *mut u32, os: usize, h: *mut u64, hs: usize, r: *mut u32, rs: usize
+                $(, $more: $type)*
+            ) -> u64;)*
+        }
+    };
+}
+
+proved! {
+    register_make_fresh();
+    register_begin(id: u64);
+    register_read(id: u64, word: u64);
+    register_write(id: u64, word: u64, value: u32);
+    register_commit(id: u64);
+    register_step(id: u64, value: *mut u64, values: usize);
+    register_flush(word: u64);
+    register_crash();
+    register_recover();
+    register_recover_up_to(allowance: u64, value: *mut u64, values: usize);
 }
 
 #[derive(Clone, Copy, Debug)]
@@ -30,6 +41,11 @@ pub enum Ask {
     Crash,
     Recover,
     RecoverUpTo { allowance: u64 },
+}
+
+/// Whether the library puts the answer's value into a row; the value of every other call is 0.
+fn tells(ask: Ask) -> bool {
+    matches!(ask, Ask::Step { .. } | Ask::RecoverUpTo { .. })
 }
 
 /// A store as numbers, or numbers that spell none.
@@ -177,18 +193,17 @@ fn due(before: &Numbers, ask: Ask) -> (u64, u64, Numbers) {
     let lengths = before.held.len() == 8 && before.records.len() == 4 * store::IDENTIFIERS;
     let mut s = match (ask, read(before)) {
         (Ask::MakeFresh, _) if !lengths => return refused(),
-        (Ask::MakeFresh, _) => {
+        (_, Some(s)) => s,
+        (Ask::MakeFresh, None) => {
             let mut any = store::new_store(0);
             (any.vol, any.pers, any.old) = (before.vol.clone(), before.pers.clone(), before.old.clone());
             any
         }
         (_, None) => return refused(),
-        (_, Some(s)) => s,
     };
-    let (number, value) = plain(&mut s, ask);
-    match ask {
-        Ask::MakeFresh if number == 9 => refused(),
-        _ => (number, value, spell(&s)),
+    match (ask, plain(&mut s, ask)) {
+        (Ask::MakeFresh, (9, 0)) => refused(),
+        (_, (number, value)) => (number, value, spell(&s)),
     }
 }
 
@@ -247,8 +262,8 @@ impl Lent {
         Lent { vol: words(), pers: words(), old: words(), held: Row::new(BEFORE), records: words(), value: Row::new(BEFORE) }
     }
 
-    /// The proved call: its number and, where it has one, its value.
-    fn call(&mut self, before: &Numbers, ask: Ask, room: usize) -> (u64, Option<u64>) {
+    /// The proved call, with a row of so many numbers for the value; gives the answer's number.
+    fn call(&mut self, before: &Numbers, ask: Ask, room: usize) -> u64 {
         self.vol.fill(&before.vol);
         self.pers.fill(&before.pers);
         self.old.fill(&before.old);
@@ -258,7 +273,7 @@ impl Lent {
         let ((v, vs), (p, ps), (o, os)) = (self.vol.lend(), self.pers.lend(), self.old.lend());
         let ((h, hs), (r, rs), (x, xs)) = (self.held.lend(), self.records.lend(), self.value.lend());
         // SAFETY: rows that do not overlap, each as pointer and length, which is how the library takes them
-        let number = unsafe {
+        unsafe {
             match ask {
                 Ask::MakeFresh => register_make_fresh(v, vs, p, ps, o, os, h, hs, r, rs),
                 Ask::Begin { id } => register_begin(v, vs, p, ps, o, os, h, hs, r, rs, id),
@@ -271,22 +286,25 @@ impl Lent {
                 Ask::Recover => register_recover(v, vs, p, ps, o, os, h, hs, r, rs),
                 Ask::RecoverUpTo { allowance } => register_recover_up_to(v, vs, p, ps, o, os, h, hs, r, rs, allowance, x, xs),
             }
-        };
-        let told = matches!(ask, Ask::Step { .. } | Ask::RecoverUpTo { .. }) && room > 0;
-        (number, if told { Some(self.value.row()[0]) } else { None })
+        }
+    }
+
+    /// The row for the value, as it is due.
+    fn value_due(&self, ask: Ask, value: u64) -> Vec<u64> {
+        let mut row = vec![BEFORE; self.value.row().len()];
+        if tells(ask) && !row.is_empty() {
+            row[0] = value;
+        }
+        row
     }
 
     /// What the library wrote where it had nothing to write.
-    fn touched(&self, told: bool) -> Option<String> {
-        let margins = self.vol.untouched() && self.pers.untouched() && self.old.untouched();
-        let rest = &self.value.row()[told as usize..];
-        if !margins || !self.held.untouched() || !self.records.untouched() || !self.value.untouched() {
-            return Some("  the library wrote beside a row".to_string());
+    fn touched(&self) -> Option<String> {
+        let words = self.vol.untouched() && self.pers.untouched() && self.old.untouched();
+        if words && self.held.untouched() && self.records.untouched() && self.value.untouched() {
+            return None;
         }
-        if rest.iter().any(|x| *x != BEFORE) {
-            return Some("  the library wrote to the value's row behind its first number".to_string());
-        }
-        None
+        Some("  the library wrote beside a row".to_string())
     }
 }
 
@@ -297,7 +315,8 @@ fn first<T: PartialEq + std::fmt::Display>(row: &str, library: &[T], plain: &[T]
         return Some(format!("  {}: proved: {} numbers\n  {}: plain:  {} numbers", row, library.len(), row, plain.len()));
     }
     let at = (0..plain.len()).find(|i| library[*i] != plain[*i])?;
-    Some(format!("  {}[{}]: proved: {}\n  {}[{}]: plain:  {}", row, at, library[at], row, at, plain[at]))
+    let place = if plain.len() == 1 { row.to_string() } else { format!("{}[{}]", row, at) };
+    Some(format!("  {}: proved: {}\n  {}: plain:  {}", place, library[at], place, plain[at]))
 }
 
 /// What differs in the whole outcome of a call. The row for the value has so many numbers.
@@ -305,19 +324,16 @@ pub fn judge(before: &Numbers, ask: Ask, room: usize, lent: &mut Lent) -> Option
     let Ok((number, value, after)) = catch_unwind(AssertUnwindSafe(|| due(before, ask))) else {
         return Some("  the plain program panics".to_string());
     };
-    let (library, told) = lent.call(before, ask, room);
-    if library != number {
-        return Some(format!("  answer: proved: {}\n  answer: plain:  {}", library, number));
-    }
-    if told.is_some_and(|told| told != value) || (told.is_none() && !matches!(ask, Ask::Step { .. } | Ask::RecoverUpTo { .. }) && value != 0) {
-        return Some(format!("  value: proved: {}\n  value: plain:  {}", told.unwrap_or(0), value));
-    }
-    first("volatile", lent.vol.row(), &after.vol)
+    let library = lent.call(before, ask, room);
+    first("answer", &[library], &[number])
+        .or_else(|| first("value", &[if tells(ask) { value } else { 0 }], &[value]))
+        .or_else(|| first("value", lent.value.row(), &lent.value_due(ask, value)))
+        .or_else(|| first("volatile", lent.vol.row(), &after.vol))
         .or_else(|| first("persistent", lent.pers.row(), &after.pers))
         .or_else(|| first("old", lent.old.row(), &after.old))
         .or_else(|| first("held", lent.held.row(), &after.held))
         .or_else(|| first("records", lent.records.row(), &after.records))
-        .or_else(|| lent.touched(told.is_some()))
+        .or_else(|| lent.touched())
 }
 
 /// A call and the numbers before it, to be kept in a file.
