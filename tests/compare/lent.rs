@@ -1,33 +1,9 @@
 //! One single call: what the library makes of a store that is lent to it as numbers, and what the plain program makes of the store.
 
+use crate::exports::*;
 use crate::store::{self, Phase, Recovery, Store, Tx};
 use std::fmt::Write;
 use std::panic::{catch_unwind, AssertUnwindSafe};
-
-/// The proved calls. Each is lent the rows of volatile, persistent and old words, of what is held beside them and of the records, as pointer and length.
-macro_rules! proved {
-    ($($name:ident($($more:ident: $type:ty),*);)*) => {
-        extern "C" {
-            $(fn $name(
-                v: *mut u32, vs: usize, p: *mut u32, ps: usize, o: *mut u32, os: usize, h: *mut u64, hs: usize, r: *mut u32, rs: usize
-                $(, $more: $type)*
-            ) -> u64;)*
-        }
-    };
-}
-
-proved! {
-    register_make_fresh();
-    register_begin(id: u64);
-    register_read(id: u64, word: u64);
-    register_write(id: u64, word: u64, value: u32);
-    register_commit(id: u64);
-    register_step(id: u64, value: *mut u64, values: usize);
-    register_flush(word: u64);
-    register_crash();
-    register_recover();
-    register_recover_up_to(allowance: u64, value: *mut u64, values: usize);
-}
 
 #[derive(Clone, Copy, Debug)]
 pub enum Ask {

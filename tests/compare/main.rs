@@ -12,6 +12,8 @@ mod judge;
 mod lent;
 mod program;
 mod singles;
+#[path = "../host/exports.rs"]
+mod exports;
 #[path = "../plain/generate.rs"]
 mod generate;
 #[path = "../plain/ghost.rs"]

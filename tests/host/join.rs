@@ -1,6 +1,7 @@
 //! A host that joins "Lower Forty" with "Lower Forty B": the link, the history and the area are written in one transaction. The power fails after its
 //! second write, recovery takes the join back, and a second transaction writes it whole. Each call's answer is printed, and the three persistent words.
 
+mod exports;
 mod register;
 
 use register::{Answer, Register};

@@ -1,15 +1,6 @@
 //! The register's calls for a host in Rust: a store of N words and a method for each call. The library takes any rows, so nothing is tested here.
 
-#[rustfmt::skip]
-extern "C" {
-    fn register_make_fresh(vol: *mut u32, n_vol: usize, pers: *mut u32, n_pers: usize, old: *mut u32, n_old: usize, held: *mut u64, n_held: usize, records: *mut u32, n_records: usize) -> u64;
-    fn register_begin(vol: *mut u32, n_vol: usize, pers: *mut u32, n_pers: usize, old: *mut u32, n_old: usize, held: *mut u64, n_held: usize, records: *mut u32, n_records: usize, id: u64) -> u64;
-    fn register_write(vol: *mut u32, n_vol: usize, pers: *mut u32, n_pers: usize, old: *mut u32, n_old: usize, held: *mut u64, n_held: usize, records: *mut u32, n_records: usize, id: u64, word: u64, value: u32) -> u64;
-    fn register_commit(vol: *mut u32, n_vol: usize, pers: *mut u32, n_pers: usize, old: *mut u32, n_old: usize, held: *mut u64, n_held: usize, records: *mut u32, n_records: usize, id: u64) -> u64;
-    fn register_step(vol: *mut u32, n_vol: usize, pers: *mut u32, n_pers: usize, old: *mut u32, n_old: usize, held: *mut u64, n_held: usize, records: *mut u32, n_records: usize, id: u64, value: *mut u64, n_value: usize) -> u64;
-    fn register_crash(vol: *mut u32, n_vol: usize, pers: *mut u32, n_pers: usize, old: *mut u32, n_old: usize, held: *mut u64, n_held: usize, records: *mut u32, n_records: usize) -> u64;
-    fn register_recover_up_to(vol: *mut u32, n_vol: usize, pers: *mut u32, n_pers: usize, old: *mut u32, n_old: usize, held: *mut u64, n_held: usize, records: *mut u32, n_records: usize, allowance: u64, value: *mut u64, n_value: usize) -> u64;
-}
+use crate::exports::*;
 
 /// The rows of a store: N volatile, persistent and old words, what is held beside them, and the 64 records.
 pub struct Register {
