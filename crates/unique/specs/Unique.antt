@@ -98,7 +98,8 @@ readPrinted x = buffer (x .bytes) (x .at)
 -- ---- each reading settles the outcome
 
 pub record UniqueOutcomes : Type 1 where
-  -- the result itself, or a row itself: marks, parts, turn, records, tally, reader's header, system's crash_tx, doing's slot and reaches_all
+  -- the result itself, a row itself, or a record of the result and every row: marks, stages, parts, turn, records, tally, reader's header, system's crash_tx,
+  -- doing's slot and reaches_all, machine's zero and blank; spelling, numbers, calls and events
   pub itself : {X : Type 0} → Settles {X = X} {Y = X} (λ x. x)
   -- asks and lines
   pub turned : Settles readTurned
