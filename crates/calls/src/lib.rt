@@ -8,7 +8,7 @@ use numbers::asked;
 use numbers::call;
 ghost use mathlib.Core.Path.{_≡_};
 ghost use mathlib.Core.List.{[]};
-ghost use Rattle.dtml.specs.Checks.{begin, read, write, commit, step, on};
+ghost use Rattle.dtml.specs.Asked.{begin, read, write, commit, step, on};
 ghost use Rattle.numbers.specs.Numbers.{rows, callNumbers, given, gives};
 
 #[no_mangle]

@@ -7,7 +7,7 @@ use lib.Dec.{eqb}
 use Rattle.bits.specs.Marks.{countOf}
 use Rattle.dtml.specs.Table.{Reply}
 use Rattle.dtml.specs.Store.{fresh}
-use Rattle.dtml.specs.Checks.{Call}
+use Rattle.dtml.specs.Asked.{Call}
 use Rattle.dtml.specs.History.{World}
 use Rattle.dtml.specs.Demands.{after}
 use Rattle.day.specs.Replay.{answers}

@@ -5,7 +5,7 @@ use mathlib.Core.Bool.{true}
 use mathlib.Core.List.{List, [], _∷_, _++_}
 use lib.ListN.{replicate}
 use Rattle.dtml.specs.Table.{Reply, says as answer}
-use Rattle.dtml.specs.Checks.{begin, read, write, commit, step, flush, crash, recover, Call, on, sys}
+use Rattle.dtml.specs.Asked.{begin, read, write, commit, step, flush, crash, recover, Call, on, sys}
 use Rattle.reader.specs.Trace.{scriptOf}
 use Rattle.cases.specs.Cases.{Claim, says, lines, word, logged, bound, History, allHold}
 

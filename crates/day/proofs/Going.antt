@@ -17,10 +17,11 @@ use Rattle.dtml.specs.declared.Tx.{Tx}
 use Rattle.dtml.specs.Table.{Reply, reply}
 use Rattle.dtml.specs.Store.{Store, memory, store, fresh, recordAt}
 use Rattle.dtml.specs.Lines.{crashTxs}
-use Rattle.dtml.specs.Checks.{notIdle, flush, crash, recover, recoverUpTo, Call, on, sys}
+use Rattle.dtml.specs.Asked.{flush, crash, recover, recoverUpTo, Call, on, sys, Outcome}
+use Rattle.dtml.specs.Checks.{notIdle}
 use Rattle.dtml.specs.Acts.{callOf}
 use Rattle.dtml.specs.Counting.{crashesIn, linesIn, cutIn}
-use Rattle.dtml.specs.Calls.{Outcome, call}
+use Rattle.dtml.specs.Calls.{call}
 use Rattle.dtml.specs.History.{Past, World, tell, dawn, runs}
 use Rattle.dtml.specs.Demands.{after}
 use Rattle.dtml.proofs.Words.{pick-case}

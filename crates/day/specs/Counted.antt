@@ -3,7 +3,7 @@ use Prim.Native.Nat.{ℕ, _+_, _*_, _≤_}
 use mathlib.Core.List.{List}
 use Rattle.dtml.specs.declared.Recovery.{Recovery}
 use Rattle.dtml.specs.Table.{Reply}
-use Rattle.dtml.specs.Checks.{Call}
+use Rattle.dtml.specs.Asked.{Call}
 use Rattle.dtml.specs.Counting.{crashesIn, linesIn, cutIn}
 use Rattle.tally.specs.Tally.{committedIn}
 use Rattle.day.specs.declared.Totals.{Totals}

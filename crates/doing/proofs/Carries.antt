@@ -15,7 +15,8 @@ use Rattle.dtml.specs.declared.Recovery.{Recovery}
 use Rattle.dtml.specs.declared.Tx.{Tx}
 use Rattle.dtml.specs.Store.{Memory, Store, tx, recordAt}
 use Rattle.dtml.specs.Lines.{crashTxs}
-use Rattle.dtml.specs.Checks.{Ask, Sys, flush, crash, recover, recoverUpTo, Call, on, sys, unfit}
+use Rattle.dtml.specs.Asked.{Ask, Sys, flush, crash, recover, recoverUpTo, Call, on, sys}
+use Rattle.dtml.specs.Checks.{unfit}
 use Rattle.dtml.specs.Calls.{call, settled, systemTxs, callOne, callSystem}
 use Rattle.dtml.proofs.Lift.{no-record, on-record, on-system}
 use Rattle.turn.specs.declared.Turn.{Turn}

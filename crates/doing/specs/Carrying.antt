@@ -9,9 +9,9 @@ use Rattle.dtml.specs.declared.Tx.{Tx}
 use Rattle.dtml.specs.declared.Recovery.{Recovery}
 use Rattle.dtml.specs.Table.{Reply, says, reply}
 use Rattle.dtml.specs.Store.{Memory, Store, store}
-use Rattle.dtml.specs.Lines.{Did, Healed, crashTxs}
-use Rattle.dtml.specs.Checks.{flush, crash, recover, recoverUpTo, Call, on, sys}
-use Rattle.dtml.specs.Calls.{Outcome, outcome, callOne, callSystem}
+use Rattle.dtml.specs.Asked.{flush, crash, recover, recoverUpTo, Call, on, sys, Did, Healed, Outcome, outcome}
+use Rattle.dtml.specs.Lines.{crashTxs}
+use Rattle.dtml.specs.Calls.{callOne, callSystem}
 use Rattle.doing.specs.declared.Carried.{Carried}
 
 -- the record that a call is handed: that of its identifier; record 0, which stays as it is, where there is none

@@ -10,7 +10,8 @@ use Rattle.dtml.specs.declared.Phase.the-variants.{Fresh, Ready, Committ
 use Rattle.dtml.specs.declared.Recovery.{Recovery}
 use Rattle.dtml.specs.Store.{Memory, recordAt, tx}
 use Rattle.dtml.specs.Lines.{stage}
-use Rattle.dtml.specs.Checks.{Ask, notIdle, isNew, isWaiting}
+use Rattle.dtml.specs.Asked.{Ask}
+use Rattle.dtml.specs.Checks.{notIdle, isNew, isWaiting}
 use Rattle.dtml.specs.History.{Tale, Past, last, taleAt, begins, asks}
 use Rattle.dtml.proofs.Invariant.{Free, Plain, Current, Owner, Clean, Ender, Inv}
 use Rattle.dtml.proofs.Roles.{Role, free, owner, ender, role}

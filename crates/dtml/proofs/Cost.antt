@@ -16,8 +16,9 @@ use Rattle.dtml.specs.declared.Recovery.{Recovery}
 use Rattle.dtml.specs.declared.Recovery.the-variants.{Idle, C1, C2, C3, C4, C5, C6}
 use Rattle.dtml.specs.Table.{Reply, says}
 use Rattle.dtml.specs.Store.{Memory, store}
-use Rattle.dtml.specs.Lines.{Healed, recoveryLine, anyMark}
-use Rattle.dtml.specs.Checks.{checks, unfit, notIdle, begin, read, write, commit, step, flush, crash, recover, recoverUpTo, Call, on, sys}
+use Rattle.dtml.specs.Asked.{begin, read, write, commit, step, flush, crash, recover, recoverUpTo, Call, on, sys, Healed}
+use Rattle.dtml.specs.Lines.{recoveryLine, anyMark}
+use Rattle.dtml.specs.Checks.{checks, unfit, notIdle}
 use Rattle.dtml.specs.Calls.{upTo, oneMore, system, act, call}
 use Rattle.dtml.specs.History.{Tale, taleAt, last, liveWords, noted, World, tell, runs}
 use Rattle.dtml.specs.Demands.{NoCrash}

@@ -15,9 +15,10 @@ use Rattle.dtml.specs.declared.Recovery.{Recovery}
 use Rattle.dtml.specs.declared.Recovery.the-variants.{Idle, C1, C2, C3, C4, C5, C6}
 use Rattle.dtml.specs.Table.{says}
 use Rattle.dtml.specs.Store.{Memory, Store, memory, store, recordAt, tx}
-use Rattle.dtml.specs.Lines.{Did, did, Healed, lineAt, recoveryLine, even, stage, anyMark, flushOf}
-use Rattle.dtml.specs.Checks.{Check, first, checks, Call, isAtLine, notIdle, on, step, sys, recover}
-use Rattle.dtml.specs.Calls.{ask, system, Outcome, act, call, refused}
+use Rattle.dtml.specs.Asked.{step, recover, Call, on, sys, Did, did, Healed, Outcome}
+use Rattle.dtml.specs.Lines.{lineAt, recoveryLine, even, stage, anyMark, flushOf}
+use Rattle.dtml.specs.Checks.{Check, first, checks, isAtLine, notIdle}
+use Rattle.dtml.specs.Calls.{ask, system, act, call, refused}
 use Rattle.dtml.specs.Figure1.{Line, b1, b2-even, b2-odd, r1, r2-same, r2-other, w1-even, w1-odd, w2-same, w2-other, w3, w4-in, w4-out, w5, w6, w7, e1-odd, e1-even, e2, e3, RecoveryLine, c1-some, c1-none, c2, c3, c4, c5, c6}
 use Rattle.dtml.specs.Demands.{Applies, Refused, OneLine, OneRecoveryLine}
 use Rattle.dtml.proofs.Words.{true-not-false, pick-case, even-true, even-false, is-even, is-odd}

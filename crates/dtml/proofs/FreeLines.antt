@@ -15,8 +15,9 @@ use Rattle.dtml.specs.declared.Phase.{Phase}
 use Rattle.dtml.specs.declared.Phase.the-variants.{Fresh, Ready, Committed, Aborted, B1, B2, R1, R2, W1, W2, W3, W4, W5, W6, W7, E1, E2, E3}
 use Rattle.dtml.specs.declared.Recovery.{Recovery}
 use Rattle.dtml.specs.Store.{Memory, recordAt, tx}
-use Rattle.dtml.specs.Lines.{Did, lineAt, even, stage, withGlb, word}
-use Rattle.dtml.specs.Checks.{notIdle, isAtLine, write}
+use Rattle.dtml.specs.Asked.{write, Did}
+use Rattle.dtml.specs.Lines.{lineAt, even, stage, withGlb, word}
+use Rattle.dtml.specs.Checks.{notIdle, isAtLine}
 use Rattle.dtml.specs.History.{Tale, Past, told, last, lastOf, laterAfter, taleAt, sees, starts, closes, locks}
 use Rattle.dtml.proofs.Invariant.{Agree, Free, Plain, Lock, Owner, Each, EachBut, Mode, writing, Shape, Inv}
 use Rattle.dtml.proofs.Words.{true-not-false, pick-case, even-true, is-odd, odd-other, none-marked}

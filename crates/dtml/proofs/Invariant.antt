@@ -13,7 +13,8 @@ use Rattle.dtml.specs.declared.Recovery.{Recovery}
 use Rattle.dtml.specs.declared.Recovery.the-variants.{Idle, C1, C2, C3, C4, C5, C6}
 use Rattle.dtml.specs.Store.{Memory, recordAt}
 use Rattle.dtml.specs.Lines.{even, stage, isLive}
-use Rattle.dtml.specs.Checks.{read, write, notIdle}
+use Rattle.dtml.specs.Asked.{read, write}
+use Rattle.dtml.specs.Checks.{notIdle}
 use Rattle.dtml.specs.History.{over, sees, Tale, taleAt}
 use Rattle.dtml.specs.Demands.{overlaid}
 

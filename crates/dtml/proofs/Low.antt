@@ -18,8 +18,9 @@ use Rattle.dtml.specs.declared.Recovery.{Recovery}
 use Rattle.dtml.specs.declared.Recovery.the-variants.{Idle, C1, C2, C3, C4, C5, C6}
 use Rattle.dtml.specs.Table.{Reply, says}
 use Rattle.dtml.specs.Store.{Memory, recordAt, tx, fresh}
-use Rattle.dtml.specs.Lines.{Did, Healed, lineAt, recoveryLine, even, stage, isLive, anyMark, crashTx, crashTxs}
-use Rattle.dtml.specs.Checks.{checks, begin, read, write, commit, step, flush, crash, recover, recoverUpTo, Call, on, sys}
+use Rattle.dtml.specs.Asked.{begin, read, write, commit, step, flush, crash, recover, recoverUpTo, Call, on, sys, Did, Healed}
+use Rattle.dtml.specs.Lines.{lineAt, recoveryLine, even, stage, isLive, anyMark, crashTx, crashTxs}
+use Rattle.dtml.specs.Checks.{checks}
 use Rattle.dtml.specs.Calls.{ask, upTo, system, act}
 use Rattle.dtml.specs.History.{last, taleAt, World, tell, dawn}
 use Rattle.dtml.proofs.Invariant.{Free, Owner, Ender}

@@ -19,7 +19,8 @@ use Rattle.dtml.specs.declared.Recovery.{Recovery}
 use Rattle.dtml.specs.declared.Recovery.the-variants.{Idle, C1, C2, C3, C4, C5, C6}
 use Rattle.dtml.specs.Table.{Reply}
 use Rattle.dtml.specs.Store.{Memory, recordAt, tx}
-use Rattle.dtml.specs.Lines.{Healed, recoveryLine, stage, isLive, withGlb, withMarks, storeWord, flushWord, crashMemory, crashPhase, crashTx, crashTxs, anyMark}
+use Rattle.dtml.specs.Asked.{Healed}
+use Rattle.dtml.specs.Lines.{recoveryLine, stage, isLive, withGlb, withMarks, storeWord, flushWord, crashMemory, crashPhase, crashTx, crashTxs, anyMark}
 use Rattle.dtml.specs.Checks.{notIdle}
 use Rattle.dtml.specs.Calls.{upTo}
 use Rattle.dtml.specs.History.{Tale, taleAt, closes, blank}

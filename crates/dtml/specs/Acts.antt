@@ -1,7 +1,7 @@
 -- What is asked of the machine, as the definitions have it.
 use Rattle.dtml.specs.declared.Act.{Act}
 use Rattle.dtml.specs.declared.Act.the-variants.{Begin, Read, Write, Commit, Step, Flush, Crash, Recover, RecoverUpTo}
-use Rattle.dtml.specs.Checks.{begin, read, write, commit, step, flush, crash, recover, recoverUpTo, Call, on, sys}
+use Rattle.dtml.specs.Asked.{begin, read, write, commit, step, flush, crash, recover, recoverUpTo, Call, on, sys}
 
 abbrev pub callOf : Act → Call
 callOf (Begin id) = on id begin

@@ -10,8 +10,9 @@ use Rattle.dtml.specs.declared.Recovery.{Recovery}
 use Rattle.dtml.specs.declared.Recovery.the-variants.{Idle, C1, C2, C3, C4, C5, C6}
 use Rattle.dtml.specs.Table.{Reply, says}
 use Rattle.dtml.specs.Store.{Memory, Store, store, size, recordAt, fresh}
-use Rattle.dtml.specs.Lines.{Did, did, to, line, Healed, healed, heal, flushWord, recoveryLine, crashMemory, crashTxs}
-use Rattle.dtml.specs.Checks.{unfitRows, unfitOne, unfitMemory, anyOf, _⇒_, first, Ask, begin, read, write, commit, step, Sys, flush, crash, recover, recoverUpTo, Call, on, sys, askChecks, sysChecks, checks}
+use Rattle.dtml.specs.Asked.{Ask, begin, read, write, commit, step, Sys, flush, crash, recover, recoverUpTo, Call, on, sys, Did, did, Healed, healed, Outcome, outcome}
+use Rattle.dtml.specs.Lines.{to, line, heal, flushWord, recoveryLine, crashMemory, crashTxs}
+use Rattle.dtml.specs.Checks.{unfitRows, unfitOne, unfitMemory, anyOf, _⇒_, first, askChecks, sysChecks, checks}
 
 -- ---- what is carried out
 
@@ -52,13 +53,6 @@ systemTxs recover ts = ts
 systemTxs (recoverUpTo b) ts = ts
 
 -- ---- a call on a whole store
-
-pub record Outcome : Type 0 where
-  pub reply : Reply
-  pub store : Store
-
-abbrev pub outcome : Reply → Store → Outcome
-outcome a s = record { reply = a; store = s }
 
 -- a refused call changes nothing, and its value is 0
 abbrev pub refused : Store → ℕ → Outcome

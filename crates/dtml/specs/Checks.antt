@@ -13,6 +13,7 @@ use Rattle.dtml.specs.declared.Stage.the-variants.{New, Waiting, AtLine,
 use Rattle.dtml.specs.declared.Recovery.{Recovery}
 use Rattle.dtml.specs.declared.Recovery.the-variants.{Idle, C1, C2, C3, C4, C5, C6}
 use Rattle.dtml.specs.Store.{Memory, Store, size, recordAt}
+use Rattle.dtml.specs.Asked.{Ask, begin, read, write, commit, step, Sys, flush, crash, recover, recoverUpTo, Call, on, sys}
 use Rattle.dtml.specs.Lines.{stage}
 
 -- ---- unfit
@@ -121,24 +122,6 @@ isAtLine New = false
 isAtLine Waiting = false
 isAtLine AtLine = true
 isAtLine Over = false
-
--- what can be asked of a transaction's record, and of the store as a whole
-pub data Ask : Type 0 where
-  begin : Ask
-  read : (word : ℕ) → Ask
-  write : (word value : ℕ) → Ask
-  commit : Ask
-  step : Ask
-
-pub data Sys : Type 0 where
-  flush : (word : ℕ) → Sys
-  crash : Sys
-  recover : Sys
-  recoverUpTo : (allowance : ℕ) → Sys
-
-pub data Call : Type 0 where
-  on : (identifier : ℕ) → Ask → Call
-  sys : Sys → Call
 
 -- the checks of a record's call that follow 9 and 11
 abbrev pub askChecks : ℕ → Recovery → Tx → Ask → List Check

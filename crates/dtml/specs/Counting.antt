@@ -5,7 +5,8 @@ use lib.Dec.{leb}
 use Rattle.bits.specs.Marks.{pick, countOf}
 use Rattle.dtml.specs.declared.Recovery.{Recovery}
 use Rattle.dtml.specs.Table.{Reply}
-use Rattle.dtml.specs.Checks.{notIdle, flush, crash, recover, recoverUpTo, Call, on, sys}
+use Rattle.dtml.specs.Asked.{flush, crash, recover, recoverUpTo, Call, on, sys}
+use Rattle.dtml.specs.Checks.{notIdle}
 
 -- a crash
 abbrev pub crashesIn : Call → ℕ

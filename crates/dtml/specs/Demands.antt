@@ -10,8 +10,8 @@ use Rattle.bits.specs.Marks.{pick, isMarked, countOf}
 use Rattle.dtml.specs.declared.Phase.the-variants.{E2, E3}
 use Rattle.dtml.specs.Table.{says}
 use Rattle.dtml.specs.Store.{Memory, Store, store, recordAt}
-use Rattle.dtml.specs.Lines.{Did, Healed}
-use Rattle.dtml.specs.Checks.{Check, checks, read, step, crash, recover, recoverUpTo, Call, on, sys, notIdle}
+use Rattle.dtml.specs.Asked.{read, step, crash, recover, recoverUpTo, Call, on, sys, Did, Healed}
+use Rattle.dtml.specs.Checks.{Check, checks, notIdle}
 use Rattle.dtml.specs.Calls.{call}
 use Rattle.dtml.specs.Figure1.{Line, RecoveryLine}
 use Rattle.dtml.specs.History.{over, sees, last, taleAt, World, tell, dawn, runs}

@@ -11,7 +11,7 @@ use Rattle.dtml.specs.declared.Recovery.{Recovery}
 use Rattle.dtml.specs.declared.Recovery.the-variants.{Idle, C1, C2, C3, C4, C5, C6}
 use Rattle.dtml.specs.Table.{says}
 use Rattle.dtml.specs.Store.{Memory, memory, tx}
-use Rattle.dtml.specs.Lines.{Did, did, Healed, healed}
+use Rattle.dtml.specs.Asked.{Did, did, Healed, healed}
 
 abbrev Odd : ℕ → Type 0
 Odd n = n % 2 ≡ 1

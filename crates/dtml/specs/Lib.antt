@@ -1,5 +1,6 @@
 pub mod Table
 pub mod Store
+pub mod Asked
 pub mod Lines
 pub mod Checks
 pub mod Calls

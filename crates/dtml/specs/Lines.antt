@@ -14,6 +14,7 @@ use Rattle.dtml.specs.declared.Recovery.{Recovery}
 use Rattle.dtml.specs.declared.Recovery.the-variants.{Idle, C1, C2, C3, C4, C5, C6}
 use Rattle.dtml.specs.Table.{Reply, says}
 use Rattle.dtml.specs.Store.{Memory, memory, tx}
+use Rattle.dtml.specs.Asked.{Did, did, Healed, healed}
 
 -- ---- one act on the memory
 
@@ -65,15 +66,6 @@ stage E1 = AtLine
 stage E2 = AtLine
 stage E3 = AtLine
 
--- what a line leaves: the reply, the memory and the transaction's record
-pub record Did : Type 0 where
-  pub reply : Reply
-  pub mem : Memory
-  pub tx : Tx
-
-abbrev pub did : Reply → Memory → Tx → Did
-did r m t = record { reply = r; mem = m; tx = t }
-
 -- to the next line, with nothing to report
 abbrev pub to : Memory → ℕ → Phase → Did
 to m loc p = did (says 0 0) m (tx loc p)
@@ -109,14 +101,6 @@ abbrev pub line : Memory → Tx → Did
 line m t = lineAt m (t .loc) (t .phase)
 
 -- ---- the lines of recovery
-
-pub record Healed : Type 0 where
-  pub reply : Reply
-  pub mem : Memory
-  pub rec : Recovery
-
-abbrev pub healed : Reply → Memory → Recovery → Healed
-healed a m r = record { reply = a; mem = m; rec = r }
 
 abbrev pub heal : Memory → Recovery → Healed
 heal m r = healed (says 0 0) m r

@@ -6,7 +6,7 @@ use numbers::call;
 use numbers::make_fresh;
 ghost use mathlib.Core.Path.{_≡_};
 ghost use mathlib.Core.List.{[]};
-ghost use Rattle.dtml.specs.Checks.{flush, crash, recover, recoverUpTo, sys};
+ghost use Rattle.dtml.specs.Asked.{flush, crash, recover, recoverUpTo, sys};
 ghost use Rattle.numbers.specs.Numbers.{rows, callNumbers, freshNumbers, given, gives};
 
 // Makes the store fresh, whatever the numbers were; answers 9 to rows of the wrong length.

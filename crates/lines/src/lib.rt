@@ -15,7 +15,7 @@ use turn::Turn;
 use turn::refused;
 ghost use mathlib.Core.Path.{_≡_};
 ghost use Rattle.dtml.specs.Store.{memory};
-ghost use Rattle.dtml.specs.Checks.{Ask};
+ghost use Rattle.dtml.specs.Asked.{Ask};
 ghost use Rattle.dtml.specs.Calls.{callOne};
 ghost use Rattle.turn.specs.Turning.{didOf};
 

@@ -15,8 +15,9 @@ use Rattle.dtml.specs.declared.Recovery.{Recovery}
 use Rattle.dtml.specs.declared.Tx.{Tx}
 use Rattle.dtml.specs.Store.{Memory, Store, memory, store, fresh, tx, recordAt}
 use Rattle.dtml.specs.Lines.{crashTxs}
-use Rattle.dtml.specs.Checks.{anyOf, unfit, unfitRows, unfitMemory, unfitTxs, Call, on, sys}
-use Rattle.dtml.specs.Calls.{Outcome, outcome, refused, call, makeFresh}
+use Rattle.dtml.specs.Asked.{Call, on, sys, Outcome, outcome}
+use Rattle.dtml.specs.Checks.{anyOf, unfit, unfitRows, unfitMemory, unfitTxs}
+use Rattle.dtml.specs.Calls.{refused, call, makeFresh}
 use Rattle.dtml.proofs.Fit.{none}
 use Rattle.dtml.proofs.Lift.{unfit-call, unfit-system}
 use Rattle.doing.specs.declared.Carried.{Carried}

@@ -4,7 +4,7 @@ use Prim.Native.Nat.{ℕ}
 use Rattle.dtml.specs.declared.Tx.{Tx}
 use Rattle.dtml.specs.Table.{reply}
 use Rattle.dtml.specs.Store.{Store, memory, store}
-use Rattle.dtml.specs.Calls.{Outcome, outcome}
+use Rattle.dtml.specs.Asked.{Outcome, outcome}
 use Rattle.machine.specs.declared.Held.{Held}
 use Rattle.machine.specs.declared.After.{After}
 

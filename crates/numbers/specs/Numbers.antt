@@ -9,8 +9,9 @@ use Rattle.dtml.specs.declared.Tx.{Tx}
 use Rattle.dtml.specs.declared.Recovery.{Recovery}
 use Rattle.dtml.specs.Table.{Reply, says}
 use Rattle.dtml.specs.Store.{Store, memory, store, tx}
-use Rattle.dtml.specs.Checks.{anyOf, unfitRows, Call}
-use Rattle.dtml.specs.Calls.{Outcome, call, makeFresh}
+use Rattle.dtml.specs.Asked.{Call, Outcome}
+use Rattle.dtml.specs.Checks.{anyOf, unfitRows}
+use Rattle.dtml.specs.Calls.{call, makeFresh}
 use Rattle.spelling.specs.Spelling.{spelt, spellPhase, readPhase, spellRecovery, readRecovery}
 
 -- ---- the records: four numbers each, loc, the number of the phase, its word and its value

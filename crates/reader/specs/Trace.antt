@@ -5,7 +5,8 @@ use mathlib.Core.List.{List, [], _∷_}
 use lib.ListN.{length, getD, take, drop}
 use lib.Dec.{eqb, ltb}
 use Rattle.bits.specs.Marks.{pick}
-use Rattle.dtml.specs.Checks.{anyOf, Check, _⇒_, first, begin, read, write, commit, step, flush, crash, recover, Call, on, sys}
+use Rattle.dtml.specs.Asked.{begin, read, write, commit, step, flush, crash, recover, Call, on, sys}
+use Rattle.dtml.specs.Checks.{anyOf, Check, _⇒_, first}
 
 -- ---- numbers, big-endian
 

@@ -11,7 +11,8 @@ use Rattle.dtml.specs.declared.Answer.the-variants.{Taken, Recovered}
 use Rattle.dtml.specs.declared.Recovery.{Recovery}
 use Rattle.dtml.specs.Table.{says}
 use Rattle.dtml.specs.Store.{Memory}
-use Rattle.dtml.specs.Lines.{Healed, recoveryLine}
+use Rattle.dtml.specs.Asked.{Healed}
+use Rattle.dtml.specs.Lines.{recoveryLine}
 use Rattle.dtml.specs.Checks.{unfitMemory, notIdle}
 use Rattle.dtml.specs.Calls.{upTo}
 use Rattle.dtml.proofs.Fit.{keeps, line-number, up-to-more, up-to-idle}

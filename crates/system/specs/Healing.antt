@@ -3,7 +3,7 @@ use Rattle.dtml.specs.declared.Answer.{Answer}
 use Rattle.dtml.specs.declared.Recovery.{Recovery}
 use Rattle.dtml.specs.Table.{reply}
 use Rattle.dtml.specs.Store.{Memory}
-use Rattle.dtml.specs.Lines.{Healed, healed}
+use Rattle.dtml.specs.Asked.{Healed, healed}
 use Rattle.system.specs.declared.Heal.{Heal}
 
 abbrev pub healOf : Answer → Recovery → Heal

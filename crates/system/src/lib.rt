@@ -20,7 +20,7 @@ use stages::stage;
 ghost use mathlib.Core.Path.{_≡_};
 ghost use Rattle.dtml.specs.Store.{memory};
 ghost use Rattle.dtml.specs.Lines.{crashTx};
-ghost use Rattle.dtml.specs.Checks.{Sys};
+ghost use Rattle.dtml.specs.Asked.{Sys};
 ghost use Rattle.dtml.specs.Calls.{callSystem};
 ghost use Rattle.system.specs.Healing.{healOf, healedOf};
 

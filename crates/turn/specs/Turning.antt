@@ -4,7 +4,7 @@ use Rattle.dtml.specs.declared.Answer.{Answer}
 use Rattle.dtml.specs.declared.Phase.{Phase}
 use Rattle.dtml.specs.Table.{reply}
 use Rattle.dtml.specs.Store.{Memory, tx}
-use Rattle.dtml.specs.Lines.{Did, did}
+use Rattle.dtml.specs.Asked.{Did, did}
 use Rattle.turn.specs.declared.Turn.{Turn}
 
 abbrev pub turnOf : Answer → ℕ → Phase → Turn

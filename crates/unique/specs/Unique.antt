@@ -4,8 +4,7 @@ use mathlib.Core.Path.{_≡_}
 use mathlib.Core.List.{List}
 use Rattle.dtml.specs.declared.Tx.{Tx}
 use Rattle.dtml.specs.Store.{Memory}
-use Rattle.dtml.specs.Lines.{Did, Healed}
-use Rattle.dtml.specs.Calls.{Outcome}
+use Rattle.dtml.specs.Asked.{Did, Healed, Outcome}
 use Rattle.turn.specs.declared.Turn.{Turn}
 use Rattle.turn.specs.Turning.{didOf}
 use Rattle.system.specs.declared.Heal.{Heal}
