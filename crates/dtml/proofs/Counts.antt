@@ -13,11 +13,11 @@ use Rattle.dtml.specs.declared.Phase.the-variants.{Fresh, Ready, Committ
 use Rattle.dtml.specs.declared.Recovery.{Recovery}
 use Rattle.dtml.specs.Table.{Reply}
 use Rattle.dtml.specs.Store.{recordAt}
-use Rattle.dtml.specs.Asked.{Ask, begin, read, write, commit, step, flush, crash, recover, recoverUpTo, Call, on, sys}
+use Rattle.dtml.specs.Asked.{Ask, begin, read, write, commit, step, flush, crash, recover, recoverUpTo, Call, on, sys, standsAt}
 use Rattle.dtml.specs.Checks.{unfit, notIdle}
 use Rattle.dtml.specs.Calls.{system, act, call}
 use Rattle.dtml.specs.Counting.{crashesIn, linesIn, cutIn}
-use Rattle.dtml.specs.History.{Tale, Past, taleAt, last, liveWords, noted, World, standsAt, tell}
+use Rattle.dtml.specs.History.{Tale, Past, taleAt, last, liveWords, noted, World, tell}
 use Rattle.dtml.proofs.Invariant.{Free, Over, Plain, Ender, Mode, quiet, writing, sealed, healing}
 use Rattle.dtml.proofs.Words.{pick-case}
 use Rattle.dtml.proofs.Worlds.{InvW}

@@ -22,11 +22,12 @@ use Rattle.dtml.specs.Lines.{lineAt, recoveryLine, even, stage, isLive}
 use Rattle.dtml.specs.Checks.{checks, unfit, notIdle}
 use Rattle.dtml.specs.Calls.{ask, upTo, system, act, call, refused}
 use Rattle.dtml.specs.History.{over, sees, Tale, last, laterAfter, taleAt, isE2, noted, World, tell, dawn, runs}
-use Rattle.dtml.specs.Demands.{Size, after, number, value, CommittedMemories, Durable, BothSides, WholeWhenHealed, WholeWhenIdle, NeverIdle, CutBeforeE2, CutAfterE2, Reads, RecoveryCost, NoCrash, crashed, logged, ExactCost, linesLeft, Allowance, NothingUnfit}
+use Rattle.dtml.specs.Demands.{Size, after, number, value, CommittedMemories, Durable, BothSides, WholeWhenHealed, WholeWhenIdle, NeverIdle, CutBeforeE2, CutAfterE2, Reads, RecoveryCost, EnteredOnce, NoCrash, crashed, logged, ExactCost, linesLeft, Allowance, NothingUnfit}
 use Rattle.dtml.proofs.Invariant.{Free, Owner, Ender, Mode, quiet, writing, sealed, healing}
-use Rattle.dtml.proofs.Words.{true-or-false, true-not-false, pick-case, none-marked, sees-agree}
+use Rattle.dtml.proofs.Words.{true-or-false, true-not-false, pick-case, is-idle, idle-is, busy-is, none-marked, sees-agree}
 use Rattle.dtml.proofs.Roles.{Role, free, owner, ender, role}
 use Rattle.dtml.proofs.Worlds.{Passes, call-cases, line-small, acted, tell-act, tell-keeps, tell-inv, InvW, dawn-inv}
+use Rattle.dtml.proofs.Tales.{is-E2, runs-tales, dawn-tales}
 use Rattle.dtml.proofs.Low.{LowW, tell-low, glb-low}
 use Rattle.dtml.proofs.Fit.{line-number}
 use Rattle.dtml.proofs.Fitness.{never-unfit, fine, fine-after, not-nine}
@@ -34,26 +35,6 @@ use Rattle.dtml.proofs.SystemCalls.{heals}
 use Rattle.dtml.proofs.Cost.{leftIn, idle-left, inv-left, up-to-run, sum, runs-sum, runs-paid, recovers-upTo, many-lines}
 
 -- ---- 2. Committed memories
-
-e2-is : (p : Phase) → isE2 p ≡ true → p ≡ E2
-e2-is Fresh h = cc
-e2-is Ready h = cc
-e2-is Committed h = cc
-e2-is Aborted h = cc
-e2-is B1 h = cc
-e2-is B2 h = cc
-e2-is (R1 w) h = cc
-e2-is (R2 v) h = cc
-e2-is (W1 w v) h = cc
-e2-is (W2 w v) h = cc
-e2-is (W3 w v) h = cc
-e2-is (W4 w v) h = cc
-e2-is (W5 w v) h = cc
-e2-is (W6 w v) h = cc
-e2-is (W7 w) h = cc
-e2-is E1 h = cc
-e2-is E2 h = refl
-e2-is E3 h = cc
 
 -- an answer below 9 is that of a call that was carried out
 carried-out : (w : World) (c : Call) → number w c < 9 → Passes (checks (w .store) c) × (call (w .store) c ≡ act (w .store) c)
@@ -74,7 +55,7 @@ later-kept w (on t (read x)) f = refl
 later-kept w (on t (write x v)) f = refl
 later-kept w (on t commit) f = refl
 later-kept w (on t step) f =
-    pick-case (λ x. x ≡ w .past .later) (isE2 (recordAt (w .store .txs) t .phase)) (λ e. absurd (f t refl (e2-is _ e))) (λ _. refl)
+    pick-case (λ x. x ≡ w .past .later) (isE2 (recordAt (w .store .txs) t .phase)) (λ e. absurd (f t refl (is-E2 _ e))) (λ _. refl)
 later-kept w (sys (flush x)) f = refl
 later-kept w (sys crash) f = refl
 later-kept w (sys recover) f = refl
@@ -121,7 +102,7 @@ idle-whole n w inv i none = go (inv .mode)
     go (healing a h all) = absurd (true-not-false a i)
 
 pub whole-when-idle : WholeWhenIdle
-whole-when-idle n cs z i none = idle-whole n (after n cs) (fine-after n cs (z .0) (z .1) .0) i none
+whole-when-idle n cs z i none = idle-whole n (after n cs) (fine-after n cs (z .0) (z .1) .0) (is-idle _ i) none
 
 -- a world in which some call answers 6 is one that recovery heals
 module _ (n : ℕ) (w : World) (inv : InvW n w) where
@@ -214,7 +195,7 @@ healing-last : (w : World) (cs : List Call) → NeverIdle w cs → last (runs w 
 unfolding runs
 healing-last w [] h = refl
 healing-last w (c ∷ cs) h =
-    healing-last (tell w c) cs (h .1) ∙ tell-keeps (λ v. last (v .past) ≡ last (w .past)) w c refl (healing-kept w c (h .0))
+    healing-last (tell w c) cs (h .1) ∙ tell-keeps (λ v. last (v .past) ≡ last (w .past)) w c refl (healing-kept w c (busy-is _ (h .0)))
 
 crash-last : (w : World) → last (tell w (sys crash) .past) ≡ last (w .past)
 unfolding acted noted
@@ -228,26 +209,7 @@ cut-before-E2 n cs ds c z h e =
     subst (BothSides (tell (runs w ds) c .store .mem)) (healing-last w ds h ∙ crash-last (after n cs)) (six n (runs w ds) (ok .0) c e)
 
 pub cut-after-E2 : CutAfterE2
-cut-after-E2 n cs t z ht e = go (notIdle (w .store .rec)) refl
-  where
-    w : World
-    w = after n cs
-
-    inv : InvW n w
-    inv = fine-after n cs (z .0) (z .1) .0
-
-    go : (d : Bool) → notIdle (w .store .rec) ≡ d → (before : List ℕ) × (last (w .past) ≡ over before (taleAt (w .past .tales) t .wrote))
-    go true a =
-        let s = heals n (w .store .txs) (w .past .tales) (last (w .past)) (w .store .mem) (w .store .rec) a inv .1 t ht .0 in
-        absurd (true-not-false refl (subst (λ p. isLive (stage p) ≡ false) e s))
-    go false i = held (role n (w .store .mem) (w .store .rec) (w .store .txs) (w .past .tales) (last (w .past)) t ht (inv .shape) (inv .mode) i)
-      where
-        held : Role n (w .store .mem) (w .store .rec) (w .store .txs) (w .past .tales) (last (w .past)) t
-            → (before : List ℕ) × (last (w .past) ≡ over before (taleAt (w .past .tales) t .wrote))
-        held (free f) = absurd (subst (λ p. Free n (w .store .mem .glb) (last (w .past)) (recordAt (w .store .txs) t .loc) p (taleAt (w .past .tales) t)) e (f .is-free))
-        held (owner odd lock own others) = absurd (subst (λ p. Owner n (w .store .mem) (last (w .past)) (recordAt (w .store .txs) t .loc) p (taleAt (w .past .tales) t)) e own)
-        held (ender c odd end others) =
-            subst (λ p. Ender (w .store .mem .glb) (last (w .past)) (recordAt (w .store .txs) t .loc) p (taleAt (w .past .tales) t)) e end .2
+cut-after-E2 n cs t z ht e = runs-tales n (dawn n) cs (dawn-inv n (z .0) (z .1)) (dawn-tales n) .behind t ht e
 
 -- ---- 5. Reads
 
@@ -374,6 +336,9 @@ recovery-cost n cs z =
     let h = runs-paid n (dawn n) cs (dawn-inv n (z .0) (z .1)) (omega arith) in
     omega arith
 
+pub entered-once : EnteredOnce
+entered-once n cs t z = runs-tales n (dawn n) cs (dawn-inv n (z .0) (z .1)) (dawn-tales n) .once t
+
 -- ---- 7. Recovery's exact cost
 
 -- a fit store takes a crash
@@ -422,15 +387,16 @@ exact-cost n cs ds z calm =
     let s = end-sum n cs ds z calm in (
       omega arith,
       (
-        (λ i. let e = idle-left (runs (crashed n cs) ds .store .rec) (logged (runs (crashed n cs) ds)) i in omega arith),
-        done-idle n cs ds z calm,
+        (λ i. let e = idle-left (runs (crashed n cs) ds .store .rec) (logged (runs (crashed n cs) ds)) (is-idle _ i) in omega arith),
+        (λ e. idle-is _ (done-idle n cs ds z calm e)),
       ),
     )
 
 pub allowance : Allowance
 unfolding act system
-allowance n cs ds b z calm a =
+allowance n cs ds b z calm busy =
     let w = runs (crashed n cs) ds in
+    let a = busy-is (w .store .rec) busy in
     let ok = end n cs ds z calm in
     let taken = recovers-upTo w b (never-unfit n w (ok .0) (ok .1)) a in
     let ran = up-to-run n _ _ _ b 0 (w .store .mem) (w .store .rec) (ok .0) a in (

@@ -4,7 +4,7 @@ use Prim.Native.Nat.{ℕ, _+_, _%_, _≤_, _<_}
 use native.Mathlib.Nat.{le-refl}
 use native.Mathlib.Omega.{arith}
 use borrow.Author.Tests.{eqb-true}
-use mathlib.Core.Path.{_≡_, refl, sym, ap, _∙_}
+use mathlib.Core.Path.{_≡_, refl, sym, ap, subst, _∙_}
 use mathlib.Core.Bool.{true, false}
 use mathlib.Core.List.{List}
 use lib.ListN.{length, set, length-set}
@@ -19,6 +19,7 @@ use Rattle.dtml.specs.Asked.{write, Did}
 use Rattle.dtml.specs.Lines.{lineAt, even, stage, withGlb, word}
 use Rattle.dtml.specs.Checks.{notIdle, isAtLine}
 use Rattle.dtml.specs.History.{Tale, Past, told, last, lastOf, laterAfter, taleAt, sees, starts, closes, locks}
+use Rattle.dtml.specs.Demands.{OutOf}
 use Rattle.dtml.proofs.Invariant.{Agree, Free, Plain, Lock, Owner, Each, EachBut, Mode, writing, Shape, Inv}
 use Rattle.dtml.proofs.Words.{true-not-false, pick-case, even-true, is-odd, odd-other, none-marked}
 use Rattle.dtml.proofs.Roles.{set-here, set-own}
@@ -112,7 +113,7 @@ module _ (n : ℕ) (m : Memory) (r : Recovery) (ts : List Tx) (ks : List Tale) (
       (set-here ts ks t (tx loc (W3 w v)) (locks k)
       (λ a b d. Lock n (withGlb m (m .glb + 1)) (last past) d × Owner n (withGlb m (m .glb + 1)) (last past) a b d)
       in-txs in-tales (
-        (pl .0, refl, ag, ap length (pl .2) ∙ sym c),
+        (pl .0, refl, ag, ap length (pl .2) ∙ sym c, λ x u. subst (λ xs. OutOf xs x) (sym (pl .2)) tt),
         (
           ap (λ (x : ℕ). x + 1) e,
           (λ x hx. (unlogged-vol c x hx ∙ sym (ap (λ xs. sees xs (last past) x) (pl .1)), unlogged-pers c x hx ∙ sym (unlogged-vol c x hx))),

@@ -15,8 +15,8 @@ use Rattle.dtml.specs.Store.{Memory, recordAt}
 use Rattle.dtml.specs.Lines.{even, stage, isLive}
 use Rattle.dtml.specs.Asked.{read, write}
 use Rattle.dtml.specs.Checks.{notIdle}
-use Rattle.dtml.specs.History.{over, sees, Tale, taleAt}
-use Rattle.dtml.specs.Demands.{overlaid}
+use Rattle.dtml.specs.History.{sees, Tale, taleAt}
+use Rattle.dtml.specs.Demands.{overlaid, OutOf}
 
 -- two memories agree at every word
 abbrev pub Agree : ℕ → List ℕ → List ℕ → Type 0
@@ -65,8 +65,10 @@ pub record Dirty (n : ℕ) (m : Memory) (l : List ℕ) (k : Tale) (x v : ℕ) : 
   pub stored : getD (m .vol) x 0 ≡ v
   pub elsewhere : (w : ℕ) → w < n → (w ≡ x → ⊥) → (getD (m .vol) w 0 ≡ sees (k .wrote) l w) × (getD (m .pers) w 0 ≡ getD (m .vol) w 0)
 
+-- a word that it entered is in the log
 abbrev pub Lock : ℕ → Memory → List ℕ → Tale → Type 0
 Lock n m l k = (k .live ≡ true) × (k .writing ≡ true) × Agree n (k .start) l × (length (k .entered) ≡ countOf (m .marks))
+    × ((w : ℕ) → isMarked (m .marks) w ≡ false → OutOf (k .entered) w)
 
 abbrev pub Owner : ℕ → Memory → List ℕ → ℕ → Phase → Tale → Type 0
 Owner n m l loc Fresh k = ⊥
@@ -108,7 +110,7 @@ Ender g l loc (W6 w v) k = ⊥
 Ender g l loc (W7 w) k = ⊥
 Ender g l loc E1 k = ⊥
 Ender g l loc E2 k = ⊥
-Ender g l loc E3 k = (loc ≡ g) × Over k × ((before : List ℕ) × (l ≡ over before (k .wrote)))
+Ender g l loc E3 k = (loc ≡ g) × Over k
 
 -- ---- recovery
 

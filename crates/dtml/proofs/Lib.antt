@@ -12,6 +12,9 @@ pub mod Low
 pub mod Figure
 pub mod Fitness
 pub mod Cost
+pub mod Tales
+pub mod Tests
+pub mod Every
 pub mod Demands
 pub mod Lift
 pub mod Counts

@@ -4,7 +4,7 @@ use Prim.Native.Nat.{ℕ, _+_, _%_, _<_}
 use native.Mathlib.Nat.{le-refl}
 use native.Mathlib.Omega.{arith}
 use borrow.Author.Tests.{eqb-false}
-use mathlib.Core.Path.{_≡_, refl, sym, _∙_}
+use mathlib.Core.Path.{_≡_, refl, sym, ap, _∙_}
 use mathlib.Core.Bool.{true, false}
 use mathlib.Core.Logic.{_⊎_, inl, inr, ⊎-elim}
 use mathlib.Core.List.{List}
@@ -21,7 +21,7 @@ use Rattle.dtml.specs.declared.Recovery.{Recovery}
 use Rattle.dtml.specs.Store.{Memory, memory, tx}
 use Rattle.dtml.specs.Lines.{lineAt, even, stage, withGlb, withMarks, word, enter, storeWord, flushWord, flushOf}
 use Rattle.dtml.specs.Checks.{notIdle, isAtLine}
-use Rattle.dtml.specs.History.{Tale, Past, told, last, sees, over, closes, enters, writes}
+use Rattle.dtml.specs.History.{Tale, Past, told, last, sees, over, askedWrite, closes, enters, writes}
 use Rattle.dtml.proofs.Invariant.{Free, Lock, Owner, Dirty, Ender, EachBut, Mode, quiet, writing, sealed, Inv}
 use Rattle.dtml.specs.Demands.{overlaid}
 use Rattle.dtml.proofs.Words.{same-or-not, true-not-false, pick-case, even-false, is-even, odd-other, over-length, over-sees, sees-same, sees-other}
@@ -68,7 +68,7 @@ module _ (n : ℕ) (m : Memory) (r : Recovery) (ts : List Tx) (ks : List Tale) (
     marks-in = λ x hx. laws .mark-other (m .marks) w x (λ e. let z = own .3 in omega arith) ∙ inv .marks-in x hx;
     mode =
         goes-on (m .vol) (m .pers) (set (m .old) w (word m w)) (markOf (m .marks) w) loc (W6 w v) (enters k)
-        (lock .0, lock .1, lock .2, more)
+        (lock .0, lock .1, lock .2, more, λ x u. (new x u, lock .4 x (unmarked-before x u)))
         (own .0, own .1, own .2, own .3, laws .mark-same (m .marks) w (in-marks w (own .3)));
   }
     where
@@ -77,6 +77,11 @@ module _ (n : ℕ) (m : Memory) (r : Recovery) (ts : List Tx) (ks : List Tale) (
           let a = laws .count-mark (m .marks) w (in-marks w (own .3)) (own .4) in
           let b = lock .3 in
           omega arith
+
+      new : (x : ℕ) → isMarked (markOf (m .marks) w) x ≡ false → x ≡ askedWrite (k .asked) .word → ⊥
+      new x u e =
+          let here : x ≡ w = e ∙ ap (λ a. askedWrite a .word) (own .2) in
+          true-not-false (laws .mark-same (m .marks) w (in-marks w (own .3))) (rw here at u)
 
       unmarked-before : (x : ℕ) → isMarked (markOf (m .marks) w) x ≡ false → isMarked (m .marks) x ≡ false
       unmarked-before x u =
@@ -182,7 +187,7 @@ module _ (n : ℕ) (m : Memory) (r : Recovery) (ts : List Tx) (ks : List Tale) (
     mode =
         sealed t ht i (laws .count-clear (m .marks)) odd
         (set-here ts ks t (tx loc E3) (closes k) (Ender (m .glb) (over (last past) (k .wrote)))
-        (in-txs n m r ts ks past t ht i inv) (in-tales n m r ts ks past t ht i inv) (own .0, (refl, refl), (last past, refl)))
+        (in-txs n m r ts ks past t ht i inv) (in-tales n m r ts ks past t ht i inv) (own .0, (refl, refl)))
         (set-own ts ks t (tx loc E3) (closes k) (Free n (m .glb) (over (last past) (k .wrote)))
         (others-move n (m .glb) (m .glb) (last past) (over (last past) (k .wrote)) ts ks t (le-refl (m .glb))
         (λ a ea _. odd-other a (m .glb) (even-false (m .glb) odd) ea) others));

@@ -3,7 +3,7 @@ use Prim.Native.Nat.{ℕ, _%_, _<_}
 use mathlib.Core.Path.{_≡_, refl, sym, ap, _∙_}
 use mathlib.Core.Bool.{Bool, true, false}
 use mathlib.Core.List.{List, [], _∷_}
-use mathlib.Core.Logic.{_⊎_, inl, inr}
+use mathlib.Core.Logic.{_⊎_, inl, inr, ⊎-elim}
 use native.Mathlib.Omega.{arith}
 use native.Mathlib.Decide.{ℕ-discrete, decLt}
 use borrow.Author.Tests.{eqb-true, eqb-false, eq-eqb, ne-eqb}
@@ -13,7 +13,10 @@ use lib.Dec.{eqb}
 use Rattle.bits.specs.Marks.{pick, isMarked, countOf}
 use Rattle.bits.specs.Laws.{room}
 use Rattle.bits.proofs.Laws.{laws}
+use Rattle.dtml.specs.declared.Recovery.{Recovery}
+use Rattle.dtml.specs.declared.Recovery.the-variants.{Idle, C1, C2, C3, C4, C5, C6}
 use Rattle.dtml.specs.Lines.{even}
+use Rattle.dtml.specs.Checks.{notIdle}
 use Rattle.dtml.specs.History.{Write, over, sees}
 use Rattle.dtml.proofs.Invariant.{Agree}
 
@@ -52,6 +55,23 @@ is-odd n e = ne-eqb (n % 2) 0 (λ z. omega arith)
 
 pub odd-other : (a b : ℕ) → b % 2 ≡ 1 → even a ≡ true → a ≡ b → ⊥
 odd-other a b o e q = let z : a % 2 ≡ 0 = even-true a e in omega arith
+
+-- ---- idle
+
+pub is-idle : (r : Recovery) → r ≡ Idle → notIdle r ≡ false
+is-idle r e = ap notIdle e
+
+pub idle-is : (r : Recovery) → notIdle r ≡ false → r ≡ Idle
+idle-is Idle h = refl
+idle-is C1 h = cc
+idle-is C2 h = cc
+idle-is (C3 w v) h = cc
+idle-is (C4 w v) h = cc
+idle-is (C5 w v) h = cc
+idle-is C6 h = cc
+
+pub busy-is : (r : Recovery) → (r ≡ Idle → ⊥) → notIdle r ≡ true
+busy-is r f = ⊎-elim (λ e. e) (λ e. absurd (f (idle-is r e))) (true-or-false (notIdle r))
 
 -- ---- no mark
 

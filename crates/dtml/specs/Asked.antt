@@ -1,9 +1,11 @@
 -- What can be asked of a store, and what is left of it.
 use Prim.Native.Nat.{ℕ}
 use Rattle.dtml.specs.declared.Tx.{Tx}
+use Rattle.dtml.specs.declared.Phase.{Phase}
+use Rattle.dtml.specs.declared.Phase.the-variants.{Fresh}
 use Rattle.dtml.specs.declared.Recovery.{Recovery}
 use Rattle.dtml.specs.Table.{Reply}
-use Rattle.dtml.specs.Store.{Memory, Store}
+use Rattle.dtml.specs.Store.{Memory, Store, recordAt}
 
 -- what can be asked of a transaction's record, and of the store as a whole
 pub data Ask : Type 0 where
@@ -22,6 +24,11 @@ pub data Sys : Type 0 where
 pub data Call : Type 0 where
   on : (identifier : ℕ) → Ask → Call
   sys : Sys → Call
+
+-- where the record stands that a call is on
+abbrev pub standsAt : Store → Call → Phase
+standsAt s (on t a) = recordAt (s .txs) t .phase
+standsAt s (sys k) = Fresh
 
 -- what a line leaves: the reply, the memory and the transaction's record
 pub record Did : Type 0 where

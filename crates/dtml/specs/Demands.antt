@@ -8,13 +8,13 @@ use lib.ListN.{length, getD, set, replicate}
 use lib.Dec.{leb}
 use Rattle.bits.specs.Marks.{pick, isMarked, countOf}
 use Rattle.dtml.specs.declared.Phase.the-variants.{E2, E3}
+use Rattle.dtml.specs.declared.Recovery.the-variants.{Idle}
 use Rattle.dtml.specs.Table.{says}
-use Rattle.dtml.specs.Store.{Memory, Store, store, recordAt}
-use Rattle.dtml.specs.Asked.{read, step, crash, recover, recoverUpTo, Call, on, sys, Did, Healed}
-use Rattle.dtml.specs.Checks.{Check, checks, notIdle}
-use Rattle.dtml.specs.Calls.{call}
-use Rattle.dtml.specs.Figure1.{Line, RecoveryLine}
-use Rattle.dtml.specs.History.{over, sees, last, taleAt, World, tell, dawn, runs}
+use Rattle.dtml.specs.Store.{Memory, Store, recordAt}
+use Rattle.dtml.specs.Asked.{read, step, crash, recover, recoverUpTo, Call, on, sys, Outcome, outcome}
+use Rattle.dtml.specs.Calls.{call, makeFresh}
+use Rattle.dtml.specs.Rules.{Condition, order, FirstOf, NoneOf, Does, MadeFresh}
+use Rattle.dtml.specs.History.{over, sees, last, lastOf, taleAt, World, tell, dawn, runs}
 
 -- a schedule from a fresh store of n words, n from 1 to 256, and the world after it
 abbrev pub Size : ℕ → Type 0
@@ -30,29 +30,18 @@ number w c = call (w .store) c .reply .number
 abbrev pub value : World → Call → ℕ
 value w c = call (w .store) c .reply .value
 
--- ---- 1. One line
+-- ---- 1. Every call
 
--- k is the number of one of these checks, and that check applies
-abbrev pub Applies : List Check → ℕ → Type 0
-Applies [] k = ⊥
-Applies (c ∷ cs) k = ((c .applies ≡ true) × (c .number ≡ k)) ⊎ Applies cs k
-
--- refused for a reason: one of this call's checks applies, its number is answered, and nothing changes
-abbrev pub Refused : Store → Call → Type 0
-Refused s c = (k : ℕ) × (9 ≤ k) × Applies (checks s c) k × (call s c .reply ≡ says k 0) × (call s c .store ≡ s)
-
--- Each step does exactly one line of the published algorithm, on transaction t's record and the memory; nothing else moves.
-abbrev pub OneLine : Type 0
-OneLine = (s : Store) (t : ℕ) → Refused s (on t step)
-    ⊎ ((d : Did) × Line (s .mem) (recordAt (s .txs) t .loc) (recordAt (s .txs) t .phase) d
-    × ((d′ : Did) → Line (s .mem) (recordAt (s .txs) t .loc) (recordAt (s .txs) t .phase) d′ → d′ ≡ d)
-    × (call s (on t step) .reply ≡ d .reply) × (call s (on t step) .store ≡ store (d .mem) (s .rec) (set (s .txs) t (d .tx))))
-
-abbrev pub OneRecoveryLine : Type 0
-OneRecoveryLine = (s : Store) → Refused s (sys recover)
-    ⊎ ((h : Healed) × RecoveryLine (s .mem) (s .rec) h
-    × ((h′ : Healed) → RecoveryLine (s .mem) (s .rec) h′ → h′ ≡ h)
-    × (call s (sys recover) .reply ≡ h .reply) × (call s (sys recover) .store ≡ store (h .mem) (h .rec) (s .txs)))
+-- For every call on every store, fit or not:
+pub record EveryCall : Type 0 where
+  -- some number of its order of checks is the first whose condition holds, or none of them holds;
+  pub either : (s : Store) (c : Call) → ((k : ℕ) × FirstOf (order c) (Condition s c) k) ⊎ NoneOf (order c) (Condition s c)
+  -- it is refused with k, value 0 and nothing changed, exactly when k is that first number;
+  pub refused : (s : Store) (c : Call) (k : ℕ) → ((9 ≤ k) × (call s c ≡ outcome (says k 0) s)) ↔ FirstOf (order c) (Condition s c) k
+  -- where none of them holds, it does what its rule says, a step and a recovery call one line of the published algorithm, and the rule allows nothing else.
+  pub taken : (s : Store) (c : Call) → NoneOf (order c) (Condition s c) → Does s c (call s c) × ((o : Outcome) → Does s c o → o ≡ call s c)
+  -- Making fresh likewise.
+  pub fresh : (s : Store) → MadeFresh s (makeFresh s) × ((o : Outcome) → MadeFresh s o → o ≡ makeFresh s)
 
 -- ---- 2. Committed memories
 
@@ -89,14 +78,14 @@ WholeWhenHealed = (n : ℕ) (cs : List Call) (c : Call) → Size n → number (a
 
 -- and at every moment at which recovery is idle and no writer stands between its W2 and its E2.
 abbrev pub WholeWhenIdle : Type 0
-WholeWhenIdle = (n : ℕ) (cs : List Call) → Size n → notIdle (after n cs .store .rec) ≡ false
+WholeWhenIdle = (n : ℕ) (cs : List Call) → Size n → after n cs .store .rec ≡ Idle
     → ((t : ℕ) → t < 64 → taleAt (after n cs .past .tales) t .writing ≡ false)
     → BothSides (after n cs .store .mem) (last (after n cs .past))
 
 -- recovery is not idle at any moment of ds
 abbrev pub NeverIdle : World → List Call → Type 0
-NeverIdle w [] = notIdle (w .store .rec) ≡ true
-NeverIdle w (c ∷ cs) = (notIdle (w .store .rec) ≡ true) × NeverIdle (tell w c) cs
+NeverIdle w [] = w .store .rec ≡ Idle → ⊥
+NeverIdle w (c ∷ cs) = (w .store .rec ≡ Idle → ⊥) × NeverIdle (tell w c) cs
 
 -- What a crash cuts: once recovery answers 6, after whatever else came in between, both sides hold the memory that was the last committed one
 -- at the crash. So a transaction cut before its E2 has left no word behind,
@@ -105,10 +94,10 @@ CutBeforeE2 = (n : ℕ) (cs ds : List Call) (c : Call) → Size n → NeverIdle 
     → number (runs (tell (after n cs) (sys crash)) ds) c ≡ 6
     → BothSides (tell (runs (tell (after n cs) (sys crash)) ds) c .store .mem) (last (after n cs .past))
 
--- and one cut after it has all of them: its writes are in that memory.
+-- and one cut after it has all of them: the last committed memory is the one that stands right behind it, with that transaction's writes over it.
 abbrev pub CutAfterE2 : Type 0
 CutAfterE2 = (n : ℕ) (cs : List Call) (t : ℕ) → Size n → t < 64 → recordAt (after n cs .store .txs) t .phase ≡ E3
-    → (before : List ℕ) × (last (after n cs .past) ≡ over before (taleAt (after n cs .past .tales) t .wrote))
+    → (earlier : List (List ℕ)) × (after n cs .past .later ≡ over (lastOf (after n cs .past .first) earlier) (taleAt (after n cs .past .tales) t .wrote) ∷ earlier)
 
 -- ---- 5. Reads
 
@@ -124,6 +113,18 @@ Reads = (n : ℕ) (cs : List Call) (c : Call) → Size n → number (after n cs)
 abbrev pub RecoveryCost : Type 0
 RecoveryCost = (n : ℕ) (cs : List Call) → Size n
     → after n cs .past .lines ≤ 5 * after n cs .past .cut + 4 * after n cs .past .crashes
+
+-- The words that are counted there are words, and not lines W5: no transaction enters a word twice.
+abbrev pub OutOf : List ℕ → ℕ → Type 0
+OutOf [] w = Unit {0}
+OutOf (x ∷ xs) w = (w ≡ x → ⊥) × OutOf xs w
+
+abbrev pub Different : List ℕ → Type 0
+Different [] = Unit {0}
+Different (x ∷ xs) = OutOf xs x × Different xs
+
+abbrev pub EnteredOnce : Type 0
+EnteredOnce = (n : ℕ) (cs : List Call) (t : ℕ) → Size n → Different (taleAt (after n cs .past .tales) t .entered)
 
 -- ---- 7. Recovery's exact cost
 
@@ -143,7 +144,7 @@ logged w = countOf (w .store .mem .marks)
 abbrev pub ExactCost : Type 0
 ExactCost = (n : ℕ) (cs ds : List Call) → Size n → NoCrash ds
     → (runs (crashed n cs) ds .past .lines ≤ crashed n cs .past .lines + (5 * logged (crashed n cs) + 2))
-    × ((notIdle (runs (crashed n cs) ds .store .rec) ≡ false)
+    × ((runs (crashed n cs) ds .store .rec ≡ Idle)
     ↔ (runs (crashed n cs) ds .past .lines ≡ crashed n cs .past .lines + (5 * logged (crashed n cs) + 2)))
 
 -- With an allowance b, min(b, lines left) are done: the call leaves the world that as many single calls leave; and that many are reported,
@@ -152,7 +153,7 @@ abbrev pub linesLeft : ℕ → List Call → List Call → ℕ
 linesLeft n cs ds = (crashed n cs .past .lines + (5 * logged (crashed n cs) + 2)) - runs (crashed n cs) ds .past .lines
 
 abbrev pub Allowance : Type 0
-Allowance = (n : ℕ) (cs ds : List Call) (b : ℕ) → Size n → NoCrash ds → notIdle (runs (crashed n cs) ds .store .rec) ≡ true
+Allowance = (n : ℕ) (cs ds : List Call) (b : ℕ) → Size n → NoCrash ds → (runs (crashed n cs) ds .store .rec ≡ Idle → ⊥)
     → (call (runs (crashed n cs) ds .store) (sys (recoverUpTo b)) .reply
     ≡ says (pick (leb (linesLeft n cs ds) b) 6 0) (min b (linesLeft n cs ds)))
     × (tell (runs (crashed n cs) ds) (sys (recoverUpTo b))

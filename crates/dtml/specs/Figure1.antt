@@ -1,10 +1,10 @@
 -- Figure 1 of document 000, line by line, as document 01 amends it: what each numbered line asks, and all that it leaves.
 -- It is written without the machine's own definitions, which are held to it. `*addr` is the volatile word, the log is the marks with the old words.
-use Prim.Native.Nat.{ℕ, _+_, _%_}
+use Prim.Native.Nat.{ℕ, _+_, _%_, _<_}
 use mathlib.Core.Path.{_≡_}
 use mathlib.Core.Bool.{true, false}
 use lib.ListN.{getD, set}
-use Rattle.bits.specs.Marks.{isMarked, markOf, unmarkOf, clearOf, countOf, lowestOf}
+use Rattle.bits.specs.Marks.{isMarked, markOf, unmarkOf, clearOf}
 use Rattle.dtml.specs.declared.Phase.{Phase}
 use Rattle.dtml.specs.declared.Phase.the-variants.{Ready, Committed, Aborted, B1, B2, R1, R2, W1, W2, W3, W4, W5, W6, W7, E1, E2, E3}
 use Rattle.dtml.specs.declared.Recovery.{Recovery}
@@ -63,10 +63,11 @@ pub data Line (m : Memory) (loc : ℕ) (p : Phase) (d : Did) : Type 0 where
 -- In memory m, recovery that stands at line r does h.
 pub data RecoveryLine (m : Memory) (r : Recovery) (h : Healed) : Type 0 where
   -- C1 while ¬ log.isEmpty()
-  c1-some : r ≡ C1 → (countOf (m .marks) ≡ 0 → ⊥) → h ≡ healed (says 0 0) m C2 → RecoveryLine m r h
-  c1-none : r ≡ C1 → countOf (m .marks) ≡ 0 → h ≡ healed (says 0 0) m C6 → RecoveryLine m r h
+  c1-some : (w : ℕ) → r ≡ C1 → isMarked (m .marks) w ≡ true → h ≡ healed (says 0 0) m C2 → RecoveryLine m r h
+  c1-none : r ≡ C1 → ((w : ℕ) → isMarked (m .marks) w ≡ false) → h ≡ healed (says 0 0) m C6 → RecoveryLine m r h
   -- C2 SOME (addr, val). (addr, val) ∈ log: the lowest marked word
-  c2 : r ≡ C2 → h ≡ healed (says 0 0) m (C3 (lowestOf (m .marks)) (getD (m .old) (lowestOf (m .marks)) 0)) → RecoveryLine m r h
+  c2 : (w : ℕ) → r ≡ C2 → isMarked (m .marks) w ≡ true → ((x : ℕ) → x < w → isMarked (m .marks) x ≡ false)
+      → h ≡ healed (says 0 0) m (C3 w (getD (m .old) w 0)) → RecoveryLine m r h
   -- C3 *addr := val
   c3 : (w v : ℕ) → r ≡ C3 w v → h ≡ healed (says 0 0) (memory (set (m .vol) w v) (m .pers) (m .old) (m .marks) (m .glb)) (C4 w v) → RecoveryLine m r h
   -- C4 FLUSH(addr)

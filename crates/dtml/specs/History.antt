@@ -10,7 +10,7 @@ use Rattle.dtml.specs.declared.Phase.{Phase}
 use Rattle.dtml.specs.declared.Phase.the-variants.{Fresh, Ready, Committed, Aborted, B1, B2, R1, R2, W1, W2, W3, W4, W5, W6, W7, E1, E2, E3}
 use Rattle.dtml.specs.Table.{Reply}
 use Rattle.dtml.specs.Store.{Store, recordAt, fresh}
-use Rattle.dtml.specs.Asked.{Ask, begin, read, write, commit, step, flush, crash, recover, recoverUpTo, Call, on, sys}
+use Rattle.dtml.specs.Asked.{Ask, begin, read, write, commit, step, flush, crash, recover, recoverUpTo, Call, on, sys, standsAt}
 use Rattle.dtml.specs.Calls.{call}
 
 -- ---- writes
@@ -205,10 +205,6 @@ note p l c a = pick (leb 9 (a .number)) p (noted p l c a)
 pub record World : Type 0 where
   pub store : Store
   pub past : Past
-
-abbrev pub standsAt : Store → Call → Phase
-standsAt s (on t a) = recordAt (s .txs) t .phase
-standsAt s (sys k) = Fresh
 
 unfoldable pub tell : World → Call → World
 tell w c = record {

@@ -5,6 +5,7 @@ pub mod Lines
 pub mod Checks
 pub mod Calls
 pub mod Figure1
+pub mod Rules
 pub mod History
 pub mod Demands
 pub mod Counting
