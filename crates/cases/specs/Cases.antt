@@ -10,10 +10,31 @@ use Rattle.dtml.specs.Store.{fresh}
 use Rattle.dtml.specs.Asked.{Call}
 use Rattle.dtml.specs.History.{World}
 use Rattle.dtml.specs.Demands.{after}
-use Rattle.day.specs.Replay.{answers}
+use Rattle.reader.specs.Trace.{wordsOf, scriptOf}
+use Rattle.day.specs.Replay.{answers, replay}
 
--- what 01 says of a history
+-- a schedule on a fresh store of so many words, or the one that the bytes of a trace ask for
+pub data Schedule : Type 0 where
+  given : (words : ℕ) → List Call → Schedule
+  trace : (bytes : List ℕ) → Schedule
+
+abbrev pub wordsIn : Schedule → ℕ
+wordsIn (given n cs) = n
+wordsIn (trace bs) = wordsOf bs
+
+abbrev pub callsIn : Schedule → List Call
+callsIn (given n cs) = cs
+callsIn (trace bs) = scriptOf bs .calls
+
+-- the refusal that stops it, the header's or a record's; 0 if none does
+abbrev pub refusalIn : Schedule → ℕ
+refusalIn (given n cs) = 0
+refusalIn (trace bs) = replay bs (fresh (wordsOf bs)) .ending .refusal
+
+-- what is said of a history
 pub data Claim : Type 0 where
+  -- it is one of so many words and so many records, and nothing stops it
+  whole : (words records : ℕ) → Claim
   -- the answers from the call after so many on
   says : (past : ℕ) (replies : List Reply) → Claim
   -- recovery lines carried out in all
@@ -27,8 +48,7 @@ pub data Claim : Type 0 where
 
 pub record History : Type 0 where
   pub name : ℕ
-  pub words : ℕ
-  pub calls : List Call
+  pub schedule : Schedule
   pub claims : List Claim
 
 abbrev pub both : Bool → Bool → Bool
@@ -48,20 +68,23 @@ allSame (a ∷ more) (b ∷ bs) = both (same a b) (allSame more bs)
 abbrev pub boundOf : World → ℕ
 boundOf w = 5 * w .past .cut + 4 * w .past .crashes
 
-abbrev pub claimHolds : World → List Reply → Claim → Bool
-claimHolds w given (says past replies) = allSame (take (length replies) (drop past given)) replies
-claimHolds w given (lines n) = eqb (w .past .lines) n
-claimHolds w given (word at value) = both (eqb (getD (w .store .mem .vol) at 0) value) (eqb (getD (w .store .mem .pers) at 0) value)
-claimHolds w given (logged n) = eqb (countOf (w .store .mem .marks)) n
-claimHolds w given (bound n) = eqb (boundOf w) n
+-- of the schedule, the world at its end and the answers given
+abbrev pub claimHolds : Schedule → World → List Reply → Claim → Bool
+claimHolds h w got (whole words records) = both (eqb (wordsIn h) words) (both (eqb (length (callsIn h)) records) (eqb (refusalIn h) 0))
+claimHolds h w got (says past replies) = allSame (take (length replies) (drop past got)) replies
+claimHolds h w got (lines n) = eqb (w .past .lines) n
+claimHolds h w got (word at value) = both (eqb (getD (w .store .mem .vol) at 0) value) (eqb (getD (w .store .mem .pers) at 0) value)
+claimHolds h w got (logged n) = eqb (countOf (w .store .mem .marks)) n
+claimHolds h w got (bound n) = eqb (boundOf w) n
 
-abbrev pub claimsHold : World → List Reply → List Claim → Bool
-claimsHold w given [] = true
-claimsHold w given (c ∷ cs) = both (claimHolds w given c) (claimsHold w given cs)
+abbrev pub claimsHold : Schedule → World → List Reply → List Claim → Bool
+claimsHold h w got [] = true
+claimsHold h w got (c ∷ cs) = both (claimHolds h w got c) (claimsHold h w got cs)
 
 -- one definition runs a history: from a fresh store, and holds its claims against the answers given and the world at the end
 unfoldable pub holds : History → Bool
-holds h = claimsHold (after (h .words) (h .calls)) (answers (fresh (h .words)) (h .calls)) (h .claims)
+holds h =
+    claimsHold (h .schedule) (after (wordsIn (h .schedule)) (callsIn (h .schedule))) (answers (fresh (wordsIn (h .schedule))) (callsIn (h .schedule))) (h .claims)
 
 unfoldable pub allHold : List History → Bool
 allHold [] = true
