@@ -8,7 +8,7 @@ use mathlib.Core.Logic.{_⊎_, inl, inr}
 use mathlib.Core.List.{List, [], _∷_}
 use lib.ListN.{length, length-replicate}
 use Rattle.dtml.specs.Store.{Store, fresh}
-use Rattle.dtml.specs.Checks.{Check, first}
+use Rattle.dtml.specs.First.{Check, first}
 use Rattle.dtml.proofs.Words.{same-or-not, pick-case}
 use Rattle.dtml.proofs.Demands.{recovery-cost}
 use Rattle.reader.specs.Said.{headerOf}

@@ -13,7 +13,8 @@ use Rattle.dtml.specs.declared.Answer.the-variants.{Taken}
 use Rattle.dtml.specs.declared.Phase.the-variants.{Fresh}
 use Rattle.dtml.specs.declared.Tx.{Tx}
 use Rattle.dtml.specs.Store.{Store, fresh, tx}
-use Rattle.dtml.specs.Checks.{anyOf, unfitRows}
+use Rattle.dtml.specs.First.{anyOf}
+use Rattle.dtml.specs.Checks.{unfitRows}
 use Rattle.dtml.proofs.Fit.{last, none}
 use Rattle.machine.specs.declared.Held.{Held}
 use Rattle.machine.specs.declared.work.Made.{Made}

@@ -7,7 +7,7 @@ use lib.ListN.{length, replicate}
 use Rattle.dtml.specs.declared.Tx.{Tx}
 use Rattle.dtml.specs.declared.Phase.the-variants.{Fresh}
 use Rattle.dtml.specs.Store.{Store, tx}
-use Rattle.dtml.specs.Checks.{first}
+use Rattle.dtml.specs.First.{first}
 use Rattle.records.specs.Row.{storedIf}
 use Rattle.machine.specs.Given.{storeOf}
 use Rattle.reader.specs.Trace.{wordsOf, headerChecks}

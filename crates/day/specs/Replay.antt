@@ -8,7 +8,7 @@ use Rattle.bits.specs.Marks.{pick}
 use Rattle.dtml.specs.Table.{Reply}
 use Rattle.dtml.specs.Store.{Store, fresh}
 use Rattle.dtml.specs.Asked.{Call}
-use Rattle.dtml.specs.Checks.{anyOf, Check, _⇒_, first}
+use Rattle.dtml.specs.First.{anyOf, Check, _⇒_, first}
 use Rattle.dtml.specs.Calls.{call}
 use Rattle.dtml.specs.Demands.{after}
 use Rattle.reader.specs.Trace.{wordsOf, headerChecks, Script, scriptOf}

@@ -20,7 +20,8 @@ use Rattle.dtml.specs.Table.{Reply, says}
 use Rattle.dtml.specs.Store.{Memory, memory, Store, store, size, recordAt, tx, fresh}
 use Rattle.dtml.specs.Asked.{Ask, begin, read, write, commit, step, flush, crash, recover, recoverUpTo, Call, on, sys, standsAt, Did, did, Healed, healed, Outcome, outcome}
 use Rattle.dtml.specs.Lines.{lineAt, recoveryLine, stage, isLive, crashTx, crashTxs, flushOf}
-use Rattle.dtml.specs.Checks.{Check, first, checks, unfit, unfitMemory, unfitRecovery, notIdle}
+use Rattle.dtml.specs.First.{Check, first}
+use Rattle.dtml.specs.Checks.{checks, unfit, unfitMemory, unfitRecovery, notIdle}
 use Rattle.dtml.specs.Calls.{ask, upTo, system, act, call, refused, makeFresh}
 use Rattle.dtml.specs.Figure1.{Line, RecoveryLine, c1-some, c1-none, c2, c3, c4, c5, c6}
 use Rattle.dtml.specs.Rules as rule

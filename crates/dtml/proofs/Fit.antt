@@ -17,7 +17,8 @@ use Rattle.dtml.specs.Table.{Reply, says}
 use Rattle.dtml.specs.Store.{Memory}
 use Rattle.dtml.specs.Asked.{healed}
 use Rattle.dtml.specs.Lines.{heal, withMarks, choose, anyMark, recoveryLine}
-use Rattle.dtml.specs.Checks.{anyOf, unfitRows, phasePast, unfitRecovery, unfitTx, unfitBeside, unfitMemory, unfitOne, notIdle}
+use Rattle.dtml.specs.First.{anyOf}
+use Rattle.dtml.specs.Checks.{unfitRows, phasePast, unfitRecovery, unfitTx, unfitBeside, unfitMemory, unfitOne, notIdle}
 use Rattle.dtml.specs.Calls.{oneMore, upTo}
 use Rattle.dtml.proofs.Flush.{flush-length}
 

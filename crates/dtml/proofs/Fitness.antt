@@ -17,7 +17,8 @@ use Rattle.dtml.specs.declared.Recovery.{Recovery}
 use Rattle.dtml.specs.declared.Recovery.the-variants.{Idle, C1, C2, C3, C4, C5, C6}
 use Rattle.dtml.specs.Store.{Memory, Store, recordAt}
 use Rattle.dtml.specs.Asked.{begin, read, write, commit, step, flush, crash, recover, recoverUpTo, Call, on, sys}
-use Rattle.dtml.specs.Checks.{Check, first, checks, unfit, unfitTx, unfitTxs, unfitMemory, unfitRecovery, phasePast, notIdle}
+use Rattle.dtml.specs.First.{Check, first}
+use Rattle.dtml.specs.Checks.{checks, unfit, unfitTx, unfitTxs, unfitMemory, unfitRecovery, phasePast, notIdle}
 use Rattle.dtml.specs.Calls.{act, call, refused}
 use Rattle.dtml.specs.History.{Tale, taleAt, last, World, runs, tell, dawn}
 use Rattle.dtml.proofs.Invariant.{Free, Owner, Ender, Heals, Mode, quiet, writing, sealed, healing}

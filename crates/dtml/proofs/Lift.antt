@@ -14,7 +14,8 @@ use Rattle.dtml.specs.declared.Phase.the-variants.{Fresh}
 use Rattle.dtml.specs.Table.{says}
 use Rattle.dtml.specs.Store.{Store, store, recordAt, tx, size}
 use Rattle.dtml.specs.Asked.{Ask, Sys, flush, crash, recover, recoverUpTo, on, sys, did, healed, outcome}
-use Rattle.dtml.specs.Checks.{Check, first, anyOf, unfit, unfitMemory, unfitTx, unfitTxs, askChecks, sysChecks}
+use Rattle.dtml.specs.First.{Check, first, anyOf}
+use Rattle.dtml.specs.Checks.{unfit, unfitMemory, unfitTx, unfitTxs, askChecks, sysChecks}
 use Rattle.dtml.specs.Calls.{ask, system, systemTxs, act, call, refused, placed, settled, callOne, callSystem}
 use Rattle.dtml.proofs.Fit.{none, last, fit-one}
 

@@ -18,7 +18,8 @@ use Rattle.dtml.specs.declared.Recovery.{Recovery}
 use Rattle.dtml.specs.declared.Recovery.the-variants.{Idle, C1, C2, C3, C4, C5, C6}
 use Rattle.dtml.specs.Store.{Memory, Store, size, recordAt}
 use Rattle.dtml.specs.Lines.{stage}
-use Rattle.dtml.specs.Checks.{anyOf, unfitRows, phasePast, unfitRecovery, unfitTx, unfitTxs, unfitBeside, unfitMemory, unfit, notIdle, isNew, isWaiting, isAtLine}
+use Rattle.dtml.specs.First.{anyOf}
+use Rattle.dtml.specs.Checks.{unfitRows, phasePast, unfitRecovery, unfitTx, unfitTxs, unfitBeside, unfitMemory, unfit, notIdle, isNew, isWaiting, isAtLine}
 use Rattle.dtml.specs.Rules.{WrongLength, pers-differs, old-differs, no-word, above-256, not-64, Names, at-R1, at-W1, at-W2, at-W3, at-W4, at-W5, at-W6, at-W7, RecoveryNames, at-C3, at-C4, at-C5, Unfit, lengths, mark-past, glb-above, loc-above, phase-past, recovery-past, C2-unmarked, NoLine}
 use Rattle.dtml.proofs.Words.{true-or-false, true-not-false, is-idle, idle-is, none-marked}
 use Rattle.dtml.proofs.Asks.{new-fresh, waiting-ready}

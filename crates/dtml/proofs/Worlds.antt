@@ -19,7 +19,8 @@ use Rattle.dtml.specs.Table.{Reply, says}
 use Rattle.dtml.specs.Store.{Memory, Store, recordAt, tx, size, fresh}
 use Rattle.dtml.specs.Asked.{begin, read, write, commit, step, flush, crash, recover, recoverUpTo, Call, on, sys, standsAt, Did, Healed, Outcome}
 use Rattle.dtml.specs.Lines.{lineAt, recoveryLine, even, anyMark}
-use Rattle.dtml.specs.Checks.{Check, first, checks, notIdle}
+use Rattle.dtml.specs.First.{Check, first}
+use Rattle.dtml.specs.Checks.{checks, notIdle}
 use Rattle.dtml.specs.Calls.{ask, upTo, system, refused, act, call}
 use Rattle.dtml.specs.History.{Tale, Past, last, taleAt, blank, note, noted, World, tell, dawn}
 use Rattle.dtml.proofs.Invariant.{Inv, quiet}

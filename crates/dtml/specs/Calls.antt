@@ -12,7 +12,8 @@ use Rattle.dtml.specs.Table.{Reply, says}
 use Rattle.dtml.specs.Store.{Memory, Store, store, size, recordAt, fresh}
 use Rattle.dtml.specs.Asked.{Ask, begin, read, write, commit, step, Sys, flush, crash, recover, recoverUpTo, Call, on, sys, Did, did, Healed, healed, Outcome, outcome}
 use Rattle.dtml.specs.Lines.{to, line, heal, flushWord, recoveryLine, crashMemory, crashTxs}
-use Rattle.dtml.specs.Checks.{unfitRows, unfitOne, unfitMemory, anyOf, _⇒_, first, askChecks, sysChecks, checks}
+use Rattle.dtml.specs.First.{anyOf, _⇒_, first}
+use Rattle.dtml.specs.Checks.{unfitRows, unfitOne, unfitMemory, askChecks, sysChecks, checks}
 
 -- ---- what is carried out
 

@@ -14,13 +14,10 @@ use Rattle.dtml.specs.declared.Recovery.{Recovery}
 use Rattle.dtml.specs.declared.Recovery.the-variants.{Idle, C1, C2, C3, C4, C5, C6}
 use Rattle.dtml.specs.Store.{Memory, Store, size, recordAt}
 use Rattle.dtml.specs.Asked.{Ask, begin, read, write, commit, step, Sys, flush, crash, recover, recoverUpTo, Call, on, sys}
+use Rattle.dtml.specs.First.{anyOf, Check, _⇒_}
 use Rattle.dtml.specs.Lines.{stage}
 
 -- ---- unfit
-
-abbrev pub anyOf : List Bool → Bool
-anyOf [] = false
-anyOf (b ∷ bs) = pick b true (anyOf bs)
 
 -- the three word rows differ in length, or N, which is that length, is 0 or above 256
 unfoldable pub unfitRows : ℕ → ℕ → ℕ → Bool
@@ -82,19 +79,6 @@ unfit s =
     anyOf (unfitMemory (s .mem) (s .rec) ∷ not (eqb (length (s .txs)) 64) ∷ unfitTxs (size (s .mem)) (s .txs) ∷ [])
 
 -- ---- the checks
-
-pub record Check : Type 0 where
-  pub applies : Bool
-  pub number : ℕ
-
-infix 80 _⇒_
-abbrev pub _⇒_ : Bool → ℕ → Check
-b ⇒ n = record { applies = b; number = n }
-
--- first that applies: its number refuses; where none applies, the call is carried out
-abbrev pub first : {A : Type 0} → List Check → (ℕ → A) → A → A
-first [] refuse carriedOut = carriedOut
-first (c ∷ cs) refuse carriedOut = pick (c .applies) (refuse (c .number)) (first cs refuse carriedOut)
 
 abbrev pub notIdle : Recovery → Bool
 notIdle Idle = false

@@ -1,6 +1,7 @@
 pub mod Table
 pub mod Store
 pub mod Asked
+pub mod First
 pub mod Lines
 pub mod Checks
 pub mod Calls

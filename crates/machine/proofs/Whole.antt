@@ -16,7 +16,8 @@ use Rattle.dtml.specs.declared.Tx.{Tx}
 use Rattle.dtml.specs.Store.{Memory, Store, memory, store, fresh, tx, recordAt}
 use Rattle.dtml.specs.Lines.{crashTxs}
 use Rattle.dtml.specs.Asked.{Call, on, sys, Outcome, outcome}
-use Rattle.dtml.specs.Checks.{anyOf, unfit, unfitRows, unfitMemory, unfitTxs}
+use Rattle.dtml.specs.First.{anyOf}
+use Rattle.dtml.specs.Checks.{unfit, unfitRows, unfitMemory, unfitTxs}
 use Rattle.dtml.specs.Calls.{refused, call, makeFresh}
 use Rattle.dtml.proofs.Fit.{none}
 use Rattle.dtml.proofs.Lift.{unfit-call, unfit-system}

@@ -12,7 +12,8 @@ use Rattle.dtml.specs.declared.Tx.{Tx}
 use Rattle.dtml.specs.Table.{says, reply}
 use Rattle.dtml.specs.Store.{Memory, memory}
 use Rattle.dtml.specs.Asked.{Call}
-use Rattle.dtml.specs.Checks.{anyOf, unfitRows, unfitMemory}
+use Rattle.dtml.specs.First.{anyOf}
+use Rattle.dtml.specs.Checks.{unfitRows, unfitMemory}
 use Rattle.doing.specs.Carrying.{Left, left, carry, reachesAll}
 use Rattle.machine.specs.declared.Held.{Held}
 use Rattle.machine.specs.declared.work.Worked.{Worked}

@@ -20,7 +20,8 @@ ghost use lib.Dec.{eqb};
 ghost use Rattle.dtml.specs.declared.Phase.the-variants.{Fresh};
 ghost use Rattle.dtml.specs.Store.{memory, tx as txOf};
 ghost use Rattle.dtml.specs.Acts.{callOf};
-ghost use Rattle.dtml.specs.Checks.{anyOf, unfitRows};
+ghost use Rattle.dtml.specs.First.{anyOf};
+ghost use Rattle.dtml.specs.Checks.{unfitRows};
 ghost use Rattle.machine.specs.Working.{freshHeld, renewedOf, renewed, workedOf, worked};
 
 // What a call leaves beside the word rows: its record, what it gives back, and whether it was a crash, which reaches every record.

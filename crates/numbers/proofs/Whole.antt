@@ -15,7 +15,8 @@ use Rattle.dtml.specs.Table.{Reply, says, reply}
 use Rattle.dtml.specs.Store.{Store, memory, store, tx}
 use Rattle.dtml.specs.Lines.{crashTxs}
 use Rattle.dtml.specs.Asked.{Call, on, sys}
-use Rattle.dtml.specs.Checks.{anyOf, unfit, unfitRows, unfitMemory, unfitTxs}
+use Rattle.dtml.specs.First.{anyOf}
+use Rattle.dtml.specs.Checks.{unfit, unfitRows, unfitMemory, unfitTxs}
 use Rattle.dtml.specs.Calls.{refused, call, makeFresh}
 use Rattle.dtml.proofs.Lift.{unfit-call, unfit-system}
 use Rattle.doing.specs.Carrying.{slotOf}

@@ -10,7 +10,8 @@ use Rattle.dtml.specs.declared.Recovery.{Recovery}
 use Rattle.dtml.specs.Table.{Reply, says}
 use Rattle.dtml.specs.Store.{Store, memory, store, tx}
 use Rattle.dtml.specs.Asked.{Call, Outcome}
-use Rattle.dtml.specs.Checks.{anyOf, unfitRows}
+use Rattle.dtml.specs.First.{anyOf}
+use Rattle.dtml.specs.Checks.{unfitRows}
 use Rattle.dtml.specs.Calls.{call, makeFresh}
 use Rattle.spelling.specs.Spelling.{spelt, spellPhase, readPhase, spellRecovery, readRecovery}
 

@@ -9,7 +9,7 @@ use lib.ListN.{length, take, drop, length-drop}
 use lib.Seq.{getD-drop, drop-drop}
 use lib.Dec.{eqb, ltb}
 use Rattle.bits.specs.Marks.{pick}
-use Rattle.dtml.specs.Checks.{_⇒_, first}
+use Rattle.dtml.specs.First.{_⇒_, first}
 use Rattle.reader.specs.Trace.{two, end, stops, kinds, ofKind, found}
 
 module _ (bs : List ℕ) (at : ℕ) where

@@ -12,7 +12,7 @@ use lib.Seq.{length-take-le}
 use lib.Dec.{eqb, ltb}
 use Rattle.bits.specs.Marks.{pick}
 use Rattle.dtml.specs.Asked.{Call}
-use Rattle.dtml.specs.Checks.{anyOf, Check, first}
+use Rattle.dtml.specs.First.{anyOf, Check, first}
 use Rattle.dtml.proofs.Words.{same-or-not, pick-case}
 use Rattle.dtml.proofs.Fit.{last, none}
 use Rattle.reader.specs.declared.Header.{Header}

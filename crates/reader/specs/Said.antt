@@ -1,7 +1,7 @@
 -- What the reader gives back, as the definitions of the trace have it.
 use Prim.Native.Nat.{ℕ}
 use mathlib.Core.List.{List}
-use Rattle.dtml.specs.Checks.{first}
+use Rattle.dtml.specs.First.{first}
 use Rattle.dtml.specs.Acts.{callOf}
 use Rattle.reader.specs.declared.Item.{Item}
 use Rattle.reader.specs.declared.Item.the-variants.{End, Stops, Does}

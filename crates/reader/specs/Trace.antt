@@ -6,7 +6,7 @@ use lib.ListN.{length, getD, take, drop}
 use lib.Dec.{eqb, ltb}
 use Rattle.bits.specs.Marks.{pick}
 use Rattle.dtml.specs.Asked.{begin, read, write, commit, step, flush, crash, recover, Call, on, sys}
-use Rattle.dtml.specs.Checks.{anyOf, Check, _⇒_, first}
+use Rattle.dtml.specs.First.{anyOf, Check, _⇒_, first}
 
 -- ---- numbers, big-endian
 

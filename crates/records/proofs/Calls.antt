@@ -27,7 +27,8 @@ use denote.Triple.Clauses.{ensured, lasts}
 use Rattle.bits.specs.Marks.{pick}
 use Rattle.dtml.specs.declared.Tx.{Tx}
 use Rattle.dtml.specs.Lines.{crashTx}
-use Rattle.dtml.specs.Checks.{anyOf, unfitTx}
+use Rattle.dtml.specs.First.{anyOf}
+use Rattle.dtml.specs.Checks.{unfitTx}
 use Rattle.dtml.proofs.Tx as T
 use Rattle.dtml.proofs.Tx.Laws as T′
 use Rattle.system.proofs.crash_tx as crash

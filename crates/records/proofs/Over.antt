@@ -13,7 +13,8 @@ use Rattle.bits.specs.Marks.{pick}
 use Rattle.dtml.specs.declared.Tx.{Tx}
 use Rattle.dtml.specs.Store.{recordAt}
 use Rattle.dtml.specs.Lines.{crashTx, crashTxs}
-use Rattle.dtml.specs.Checks.{anyOf, unfitTx, unfitTxs}
+use Rattle.dtml.specs.First.{anyOf}
+use Rattle.dtml.specs.Checks.{unfitTx, unfitTxs}
 use Rattle.dtml.proofs.Fit.{last}
 use Rattle.dtml.proofs.Words.{pick-case}
 use Rattle.records.specs.Row.{storedIf}

@@ -6,7 +6,8 @@ ghost use mathlib.Core.Bool.{not, true};
 ghost use mathlib.Core.List.{[], _∷_};
 ghost use lib.Dec.{eqb};
 ghost use Rattle.bits.specs.Marks.{pick};
-ghost use Rattle.dtml.specs.Checks.{anyOf, unfitTx};
+ghost use Rattle.dtml.specs.First.{anyOf};
+ghost use Rattle.dtml.specs.Checks.{unfitTx};
 
 // All of a row of 64; of another row, nothing.
 pub(crate) fn if_64(len: usize) -> usize

@@ -17,7 +17,8 @@ ghost use lib.Dec.{eqb};
 ghost use Rattle.bits.specs.Marks.{pick};
 ghost use Rattle.dtml.specs.Store.{recordAt};
 ghost use Rattle.dtml.specs.Lines.{crashTxs};
-ghost use Rattle.dtml.specs.Checks.{anyOf, unfitTxs};
+ghost use Rattle.dtml.specs.First.{anyOf};
+ghost use Rattle.dtml.specs.Checks.{unfitTxs};
 ghost use Rattle.records.specs.Row.{storedIf};
 
 pub fn get(txs: &[Tx], i: usize) -> Tx

@@ -16,7 +16,7 @@ ghost use mathlib.Core.Path.{_≡_};
 ghost use mathlib.Core.Bool.{not};
 ghost use mathlib.Core.List.{[], _∷_};
 ghost use lib.Dec.{eqb};
-ghost use Rattle.dtml.specs.Checks.{anyOf};
+ghost use Rattle.dtml.specs.First.{anyOf};
 ghost use Rattle.machine.specs.Given.{storeOf};
 ghost use Rattle.day.specs.Replay.{replay as replayed};
 ghost use Rattle.day.specs.Ends.{Ends, EndsBeside};

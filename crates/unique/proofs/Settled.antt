@@ -16,7 +16,7 @@ use Rattle.dtml.specs.declared.Tx.{Tx}
 use Rattle.dtml.specs.Table.{Reply, reply}
 use Rattle.dtml.specs.Store.{Store, tx}
 use Rattle.dtml.specs.Asked.{begin, read, write, commit, step, flush, crash, recover, recoverUpTo, Call, on, sys, Did, Healed, Outcome}
-use Rattle.dtml.specs.Checks.{anyOf, Check, first}
+use Rattle.dtml.specs.First.{anyOf, Check, first}
 use Rattle.dtml.specs.Acts.{callOf}
 use Rattle.dtml.proofs.Words.{pick-case}
 use Rattle.dtml.proofs.Fit.{last, none}

@@ -37,7 +37,8 @@ use Rattle.dtml.specs.declared.Tx.{Tx}
 use Rattle.dtml.specs.Acts.{callOf}
 use Rattle.dtml.specs.Store.{memory, recordAt}
 use Rattle.dtml.specs.Lines.{crashTxs}
-use Rattle.dtml.specs.Checks.{anyOf, unfitTxs}
+use Rattle.dtml.specs.First.{anyOf}
+use Rattle.dtml.specs.Checks.{unfitTxs}
 use Rattle.dtml.proofs.Act as Act′
 use Rattle.dtml.proofs.Act.Laws as ActL
 use Rattle.dtml.proofs.Tx as T

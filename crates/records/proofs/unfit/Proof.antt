@@ -39,7 +39,8 @@ use denote.Exit.{yes}
 use Rattle.bits.specs.Marks.{pick}
 use Rattle.dtml.specs.declared.Tx.{Tx}
 use Rattle.dtml.specs.Store.{recordAt}
-use Rattle.dtml.specs.Checks.{anyOf, unfitTxs}
+use Rattle.dtml.specs.First.{anyOf}
+use Rattle.dtml.specs.Checks.{unfitTxs}
 use Rattle.dtml.proofs.Tx as R
 use Rattle.records.proofs.bounds.if_64.Symbol as if-64
 use Rattle.records.proofs.bounds.if_64.Met as if-64-thm
