@@ -265,10 +265,10 @@ impl Lent {
         }
     }
 
-    /// The row for the value, as it is due.
-    fn value_due(&self, ask: Ask, value: u64) -> Vec<u64> {
+    /// The row for the value, as it is due: a refused call leaves it.
+    fn value_due(&self, ask: Ask, number: u64, value: u64) -> Vec<u64> {
         let mut row = vec![BEFORE; self.value.row().len()];
-        if tells(ask) && !row.is_empty() {
+        if tells(ask) && number < 9 && !row.is_empty() {
             row[0] = value;
         }
         row
@@ -303,7 +303,7 @@ pub fn judge(before: &Numbers, ask: Ask, room: usize, lent: &mut Lent) -> Option
     let library = lent.call(before, ask, room);
     first("answer", &[library], &[number])
         .or_else(|| first("value", &[if tells(ask) { value } else { 0 }], &[value]))
-        .or_else(|| first("value", lent.value.row(), &lent.value_due(ask, value)))
+        .or_else(|| first("value", lent.value.row(), &lent.value_due(ask, number, value)))
         .or_else(|| first("volatile", lent.vol.row(), &after.vol))
         .or_else(|| first("persistent", lent.pers.row(), &after.pers))
         .or_else(|| first("old", lent.old.row(), &after.old))

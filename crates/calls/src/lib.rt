@@ -2,7 +2,7 @@
 // A row passes as a pointer and a length, and the rows of a call may not overlap. `numbers/specs/Numbers.antt` says how a store is spelled by the five rows: the
 // three of words, 8 numbers beside them and 256 for the records; any lengths and any numbers may be handed over, and those that spell no store are answered 9.
 // Each call gives the answer's number. Its value is 0 but for a step, so only a step takes a row for it: the value is put into the row's first number, if there
-// is one.
+// is one; a refused call (9 or above) leaves that row, too, as it was.
 use dtml::Act;
 use numbers::asked;
 use numbers::call;

@@ -5,20 +5,20 @@ use borrow.Author.Tests.{leb-true, leb-false, le-leb, lt-leb}
 use mathlib.Core.Path.{_≡_, refl, sym, ap, _∙_}
 use mathlib.Core.Bool.{Bool, true, false}
 use mathlib.Core.List.{List}
-use lib.ListN.{set}
+use lib.ListN.{length, set}
 use lib.Seq.{set-getD}
 use lib.Dec.{leb}
 use Rattle.bits.specs.Marks.{pick}
-use Rattle.dtml.specs.declared.Answer.the-variants.{NoRecord}
+use Rattle.dtml.specs.declared.Answer.the-variants.{Unfit, NoRecord}
 use Rattle.dtml.specs.declared.Phase.the-variants.{Fresh}
 use Rattle.dtml.specs.declared.Recovery.{Recovery}
 use Rattle.dtml.specs.declared.Tx.{Tx}
 use Rattle.dtml.specs.Store.{Memory, Store, tx, recordAt}
 use Rattle.dtml.specs.Lines.{crashTxs}
 use Rattle.dtml.specs.Asked.{Ask, Sys, flush, crash, recover, recoverUpTo, Call, on, sys}
-use Rattle.dtml.specs.Checks.{unfit}
+use Rattle.dtml.specs.Checks.{unfit, unfitOne}
 use Rattle.dtml.specs.Calls.{call, settled, systemTxs, callOne, callSystem}
-use Rattle.dtml.proofs.Lift.{no-record, on-record, on-system}
+use Rattle.dtml.proofs.Lift.{no-record, one-fit, on-record, on-system}
 use Rattle.turn.specs.declared.Turn.{Turn}
 use Rattle.turn.specs.Turning.{didOf}
 use Rattle.system.specs.declared.Heal.{Heal}
@@ -26,7 +26,7 @@ use Rattle.system.specs.Healing.{healedOf}
 use Rattle.dtml.specs.declared.Act.{Act}
 use Rattle.dtml.specs.Acts.{callOf}
 use Rattle.doing.specs.declared.Carried.{Carried}
-use Rattle.doing.specs.Carrying.{identifierOf, slotOf, carry, carryOn, leftOf, turned, settledBeside, putBack}
+use Rattle.doing.specs.Carrying.{identifierOf, slotOf, carry, leftOf, turned, settledBeside, putBack}
 
 -- ---- a place below 64
 
@@ -39,26 +39,39 @@ slot-low c = go (leb 64 (identifierOf c)) refl
 
 -- ---- the code's ways
 
-module _ (m : Memory) (r : Recovery) (t : Tx) (act : Act) (id : ℕ) (named : id ≡ identifierOf (callOf act)) where
-  pub nobody : (x : Carried) → 64 ≤ id → x ≡ record { answer = NoRecord; recovery = r; tx = t } → leftOf x m ≡ carry m r t (callOf act)
-  unfolding carry
-  nobody x big q = ap (λ y. leftOf y m) q ∙ rw (sym named, le-leb 64 id big)
+module _ (m : Memory) (r : Recovery) (t : Tx) where
+  abbrev unfit-handed : Bool
+  unfit-handed = unfitOne (length (m .vol)) (length (m .pers)) (length (m .old)) (m .marks) (m .glb) r t
 
-  carried-on : id < 64 → carry m r t (callOf act) ≡ carryOn m r t (callOf act)
+  -- no record is named
+  carried-none : (c : Call) (bad : Bool) → bad ≡ unfit-handed → 64 ≤ identifierOf c
+      → leftOf (record { answer = pick bad Unfit NoRecord; recovery = r; tx = t }) m ≡ carry m r t c
   unfolding carry
-  carried-on small = rw (sym named, lt-leb 64 id small)
+  carried-none (on i a) true e big = rw (sym e)
+  carried-none (on i a) false e big = rw (sym e, le-leb 64 i big)
+  carried-none (sys k) bad e big = absurd (let z : 64 ≤ 0 = big in omega arith)
+
+  -- one is: 11 is not told
+  carried-one : (i : ℕ) (a : Ask) → i < 64 → turned r (callOne m r t a) ≡ carry m r t (on i a)
+  unfolding carry callOne
+  carried-one i a small = rw (lt-leb 64 i small)
+
+module _ (m : Memory) (r : Recovery) (t : Tx) (act : Act) (id : ℕ) (named : id ≡ identifierOf (callOf act)) where
+  pub nobody-there : (x : Carried) {bad : Bool} → 64 ≤ id → bad ≡ unfit-handed m r t
+      → x ≡ record { answer = pick bad Unfit NoRecord; recovery = r; tx = t } → leftOf x m ≡ carry m r t (callOf act)
+  nobody-there x big tested q = ap (λ y. leftOf y m) q ∙ carried-none m r t (callOf act) _ tested (rw (sym named) big)
 
   pub on-one : (x : Carried) (i : ℕ) (a : Ask) (m′ : Memory) (turn : Turn) → id < 64 → callOf act ≡ on i a
       → didOf turn m′ ≡ callOne m r t a → x ≡ record { answer = turn .answer; recovery = r; tx = turn .tx }
       → leftOf x m′ ≡ carry m r t (callOf act)
   on-one x i a m′ turn small e done q =
-      ap (λ y. leftOf y m′) q ∙ ap (turned r) done ∙ sym (ap (carryOn m r t) e) ∙ sym (carried-on small)
+      ap (λ y. leftOf y m′) q ∙ ap (turned r) done ∙ carried-one m r t i a (rw (sym (ap identifierOf e), sym named) small) ∙ ap (carry m r t) (sym e)
 
-  pub on-none : (x : Carried) (k : Sys) (m′ : Memory) (heal : Heal) → id < 64 → callOf act ≡ sys k
+  pub on-none : (x : Carried) (k : Sys) (m′ : Memory) (heal : Heal) → callOf act ≡ sys k
       → healedOf heal m′ ≡ callSystem m r k → x ≡ record { answer = heal .answer; recovery = heal .recovery; tx = t }
       → leftOf x m′ ≡ carry m r t (callOf act)
-  on-none x k m′ heal small e done q =
-      ap (λ y. leftOf y m′) q ∙ ap (settledBeside t) done ∙ sym (ap (carryOn m r t) e) ∙ sym (carried-on small)
+  unfolding carry
+  on-none x k m′ heal e done q = ap (λ y. leftOf y m′) q ∙ ap (settledBeside t) done ∙ ap (carry m r t) (sym e)
 
 -- ---- the whole store
 
@@ -71,12 +84,12 @@ reached : {ts : List Tx} (s : Store) (k : Sys) → unfit s ≡ false → systemT
 reached s k h e = on-system s k h ∙ ap (λ xs. settled xs (callSystem (s .mem) (s .rec) k)) e
 
 pub carries : (s : Store) (c : Call) → unfit s ≡ false → call s c ≡ putBack s c (carry (s .mem) (s .rec) (recordAt (s .txs) (slotOf c)) c)
-unfolding carry
+unfolding carry callOne
 carries s (on i a) h = go (leb 64 i) refl
   where
     go : (b : Bool) → leb 64 i ≡ b
         → call s (on i a) ≡ putBack s (on i a) (carry (s .mem) (s .rec) (recordAt (s .txs) (slotOf (on i a))) (on i a))
-    go true e = no-record s i a h (leb-true 64 i e) ∙ rw (e, put-same s 0)
+    go true e = no-record s i a h (leb-true 64 i e) ∙ rw (e, one-fit s 0 h (omega arith), put-same s 0)
     go false e = on-record s i a h (leb-false 64 i e) ∙ rw e
 carries s (sys (flush w)) h = reached s (flush w) h (sym (put-same s 0))
 carries s (sys crash) h = reached s crash h (ap crashTxs (sym (put-same s 0)))

@@ -1,17 +1,19 @@
 -- A call on what it is handed: the store without its records, and the record that the call names.
 use Prim.Native.Nat.{ℕ}
 use mathlib.Core.Bool.{Bool, true, false}
-use mathlib.Core.List.{List}
-use lib.ListN.{set}
+use mathlib.Core.List.{List, _∷_}
+use lib.ListN.{length, set}
 use lib.Dec.{leb}
 use Rattle.bits.specs.Marks.{pick}
 use Rattle.dtml.specs.declared.Tx.{Tx}
 use Rattle.dtml.specs.declared.Recovery.{Recovery}
 use Rattle.dtml.specs.Table.{Reply, says, reply}
-use Rattle.dtml.specs.Store.{Memory, Store, store}
-use Rattle.dtml.specs.Asked.{flush, crash, recover, recoverUpTo, Call, on, sys, Did, Healed, Outcome, outcome}
+use Rattle.dtml.specs.Store.{Memory, Store, store, size}
+use Rattle.dtml.specs.Asked.{flush, crash, recover, recoverUpTo, Call, on, sys, Did, did, Healed, Outcome, outcome}
 use Rattle.dtml.specs.Lines.{crashTxs}
-use Rattle.dtml.specs.Calls.{callOne, callSystem}
+use Rattle.dtml.specs.First.{_⇒_, first}
+use Rattle.dtml.specs.Checks.{unfitOne, askChecks}
+use Rattle.dtml.specs.Calls.{ask, callSystem}
 use Rattle.doing.specs.declared.Carried.{Carried}
 
 -- the record that a call is handed: that of its identifier; record 0, which stays as it is, where there is none
@@ -38,12 +40,15 @@ turned r d = left (d .reply) (d .mem) r (d .tx)
 abbrev pub settledBeside : Tx → Healed → Left
 settledBeside t h = left (h .reply) (h .mem) (h .rec) t
 
-abbrev pub carryOn : Memory → Recovery → Tx → Call → Left
-carryOn m r t (on i a) = turned r (callOne m r t a)
-carryOn m r t (sys k) = settledBeside t (callSystem m r k)
-
+-- 01's order of checks; of the records only the one that is handed over is tested for fitness
 unfoldable pub carry : Memory → Recovery → Tx → Call → Left
-carry m r t c = pick (leb 64 (identifierOf c)) (left (says 11 0) m r t) (carryOn m r t c)
+carry m r t (on i a) =
+    turned r
+    (first
+    (unfitOne (length (m .vol)) (length (m .pers)) (length (m .old)) (m .marks) (m .glb) r t ⇒ 9 ∷ leb 64 i ⇒ 11 ∷ askChecks (size m) r t a)
+    (λ n. did (says n 0) m t)
+    (ask m t a))
+carry m r t (sys k) = settledBeside t (callSystem m r k)
 
 -- what is left, as the code gives it back
 abbrev pub leftOf : Carried → Memory → Left

@@ -4,10 +4,13 @@ use dtml::Answer;
 use dtml::Recovery;
 use dtml::Tx;
 use marks::Marks;
+use parts::fit::unfit_one;
 use system::Heal;
 use turn::Turn;
 ghost use Prim.Native.Nat.{_<_};
 ghost use mathlib.Core.Path.{_≡_};
+ghost use Rattle.bits.specs.Marks.{pick};
+ghost use Rattle.dtml.specs.declared.Answer.the-variants.{Unfit, NoRecord};
 ghost use Rattle.dtml.specs.Store.{memory};
 ghost use Rattle.dtml.specs.Acts.{callOf};
 ghost use Rattle.doing.specs.Carrying.{identifierOf, slotOf, reachesAll, carry, leftOf};
@@ -38,6 +41,24 @@ fn settled(heal: Heal, tx: Tx) -> Carried
     let recovery = heal.recovery;
     Carried {
         answer,
+        recovery,
+        tx,
+    }
+}
+
+// The answer to a call on a record that there is none of: what is unfit is told first.
+fn nobody(unfit: bool, recovery: Recovery, tx: Tx) -> Carried
+    ensures { λ r. ⌜ r ≡ record { answer = pick unfit Unfit NoRecord; recovery = recovery; tx = tx } ⌝ }
+{
+    if unfit {
+        return Carried {
+            answer: Answer::Unfit,
+            recovery,
+            tx,
+        };
+    }
+    Carried {
+        answer: Answer::NoRecord,
         recovery,
         tx,
     }
@@ -110,11 +131,8 @@ pub fn carry_out(
         ≡ carry (memory (now (vol .entry)) (now (pers .entry)) (now (old .entry)) (now (marks .entry)) (now (glb .entry))) recovery tx (callOf act) ⌝ }
 {
     if 64 <= identifier(act) {
-        return Carried {
-            answer: Answer::NoRecord,
-            recovery,
-            tx,
-        };
+        let unfit = unfit_one(vol.len(), pers.len(), old.len(), *marks, *glb, recovery, tx);
+        return nobody(unfit, recovery, tx);
     }
     match act {
         Act::Begin { id: _ } => turned(

@@ -15,7 +15,7 @@ use Rattle.dtml.specs.Table.{says}
 use Rattle.dtml.specs.Store.{Store, store, recordAt, tx, size}
 use Rattle.dtml.specs.Asked.{Ask, Sys, flush, crash, recover, recoverUpTo, on, sys, did, healed, outcome}
 use Rattle.dtml.specs.First.{Check, first, anyOf}
-use Rattle.dtml.specs.Checks.{unfit, unfitMemory, unfitTx, unfitTxs, askChecks, sysChecks}
+use Rattle.dtml.specs.Checks.{unfit, unfitMemory, unfitOne, unfitTx, unfitTxs, askChecks, sysChecks}
 use Rattle.dtml.specs.Calls.{ask, system, systemTxs, act, call, refused, placed, settled, callOne, callSystem}
 use Rattle.dtml.proofs.Fit.{none, last, fit-one}
 
@@ -59,13 +59,18 @@ pub no-record : (s : Store) (t : ℕ) (a : Ask) → unfit s ≡ false → 64 ≤
 unfolding call
 no-record s t a h b = rw (h, le-leb 64 t b)
 
+-- record t of a fit store and what stands beside the records are fit
+pub one-fit : (s : Store) (t : ℕ) → unfit s ≡ false → t < 64
+    → unfitOne (length (s .mem .vol)) (length (s .mem .pers)) (length (s .mem .old)) (s .mem .marks) (s .mem .glb) (s .rec) (recordAt (s .txs) t) ≡ false
+one-fit s t h ht =
+    let f = store-fits s h in
+    fit-one (record { beside = f .beside; own = record-fit (size (s .mem)) (s .txs) t (rw (f .long) ht) (f .records) })
+
 -- a call on record t of a fit store
 pub on-record : (s : Store) (t : ℕ) (a : Ask) → unfit s ≡ false → t < 64 → call s (on t a) ≡ placed s t (callOne (s .mem) (s .rec) (recordAt (s .txs) t) a)
 unfolding call callOne act
 on-record s t a h ht =
-    let f = store-fits s h in
-    let own = record-fit (size (s .mem)) (s .txs) t (rw (f .long) ht) (f .records) in
-    rw (h, lt-leb 64 t ht, fit-one (record { beside = f .beside; own = own }))
+    rw (h, lt-leb 64 t ht, one-fit s t h ht)
     (sym (first-lift (placed s t) (askChecks (size (s .mem)) (s .rec) (recordAt (s .txs) t) a)
     (λ n. did (says n 0) (s .mem) (recordAt (s .txs) t)) (refused s) (ask (s .mem) (recordAt (s .txs) t) a)
     (λ n. ap (λ ts. outcome (says n 0) (store (s .mem) (s .rec) ts)) (set-getD (s .txs) t (tx 0 Fresh)))))

@@ -1,5 +1,5 @@
 // What happens to a store as a whole, for a host in another language, as `calls` has it for a transaction's record: making fresh, a system flush, a crash and
-// recovery. Only the call with an allowance has a value other than 0, and takes a row for it.
+// recovery. Only the call with an allowance has a value other than 0, and takes a row for it, which a refused call leaves as it was.
 use dtml::Act;
 use numbers::asked;
 use numbers::call;

@@ -1,8 +1,8 @@
 -- The tests of the numbers, the work beside the records and what is put back, put together, are the call on the store that the numbers spell, spelled again:
 -- numbers that spell no store are refused, and so is an unfit store, whose numbers spell it again; of a fit one each part is the part's of the store.
-use Prim.Native.Nat.{ℕ, _*_, _<_}
+use Prim.Native.Nat.{ℕ, suc, _*_, _<_, _≤_}
 use native.Mathlib.Omega.{arith}
-use borrow.Author.Tests.{eqb-true, eq-eqb, ne-eqb, eqb-false, not-true, not-false}
+use borrow.Author.Tests.{eqb-true, eq-eqb, ne-eqb, eqb-false, le-leb, lt-leb, not-true, not-false}
 use mathlib.Core.Path.{_≡_, refl, sym, ap, _∙_}
 use mathlib.Core.Bool.{Bool, true, false, not}
 use mathlib.Core.List.{List, [], _∷_}
@@ -25,15 +25,29 @@ use Rattle.machine.specs.declared.work.Worked.{Worked}
 use Rattle.machine.specs.declared.work.Made.{Made}
 use Rattle.machine.specs.Working.{worked, workedOf, Renewed, renewed, renewedOf}
 use Rattle.machine.proofs.Whole.{called-whole, made-whole}
-use Rattle.numbers.specs.Numbers.{Rows, rows, spellTxs, readTxs, spellStore, readStore, same, spells, Told, told, spellOutcome, refusedRows, callNumbers, unfitLengths, freshNumbers, given, gives}
+use Rattle.numbers.specs.Numbers.{Rows, rows, spellTxs, readTxs, spellStore, readStore, same, spells, Told, told, spellOutcome, refusedRows, callNumbers, unfitLengths, freshNumbers, given, valued, gives}
 use Rattle.numbers.specs.Ways.{txAt, putTx, unfitFrom, unfitRecords, crashNumbers, heldIn, spelledHeld, spellsHeld}
 use Rattle.numbers.proofs.Again.{txs-again}
 use Rattle.numbers.proofs.Fours.{both, same-true, same-self, tx-read, tx-put, read-length, unfit-is}
 
 -- the answer is given back as a number and a row
-pub answers : (value : List ℕ) {r : ℕ} {value′ : List ℕ} {a : Reply} {x : Rows} {t : Told} → r ≡ a .number → value′ ≡ set value 0 (a .value) → told a x ≡ t
+pub answers : (value : List ℕ) {r : ℕ} {value′ : List ℕ} {a : Reply} {x : Rows} {t : Told} → r ≡ a .number → value′ ≡ valued value a → told a x ≡ t
     → given r value′ x ≡ gives value t
 answers value {value′ = value′} {a} {x} e f g = ap (λ n. given n value′ x) e ∙ ap (λ v. given (a .number) v x) f ∙ ap (gives value) g
+
+-- the row for the value: a refused call leaves it, a row with no number in it stays, and else its first number is the value
+pub kept-empty : (a : Reply) (value : List ℕ) → length value ≡ 0 → value ≡ valued value a
+kept-empty a [] e = refl
+kept-empty a (v ∷ vs) e = absurd (let z : suc (length vs) ≡ 0 = e in omega arith)
+
+module _ (a : Reply) {n : ℕ} (tells : n ≡ a .number) where
+  pub kept-refused : (value : List ℕ) → 9 ≤ n → value ≡ valued value a
+  kept-refused [] h = refl
+  kept-refused (v ∷ vs) h = rw (sym tells, le-leb 9 n h)
+
+  pub put-value : (value : List ℕ) {x : ℕ} → x ≡ a .value → n < 9 → set value 0 x ≡ valued value a
+  put-value [] e h = refl
+  put-value (v ∷ vs) e h = rw (sym tells, lt-leb 9 n h, e)
 
 -- ---- records that are spelled
 

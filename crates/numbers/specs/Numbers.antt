@@ -2,8 +2,8 @@
 use Prim.Native.Nat.{ℕ, _%_}
 use mathlib.Core.Bool.{Bool, true, false, not}
 use mathlib.Core.List.{List, [], _∷_, _++_}
-use lib.ListN.{length, getD, set}
-use lib.Dec.{eqb}
+use lib.ListN.{length, getD}
+use lib.Dec.{eqb, leb}
 use Rattle.bits.specs.Marks.{pick}
 use Rattle.dtml.specs.declared.Tx.{Tx}
 use Rattle.dtml.specs.declared.Recovery.{Recovery}
@@ -119,7 +119,7 @@ unfitLengths x =
 unfoldable pub freshNumbers : Rows → Told
 freshNumbers x = pick (unfitLengths x) (refusedRows x) (spellOutcome (makeFresh (readStore x)))
 
--- ---- what the code gives back: the answer's number; its value stands in the first number of a further row, if there is one
+-- ---- what the code gives back: the answer's number; the value of a call that is not refused stands in the first number of a further row, if there is one
 
 pub record Given : Type 0 where
   pub number : ℕ
@@ -129,5 +129,10 @@ pub record Given : Type 0 where
 abbrev pub given : ℕ → List ℕ → Rows → Given
 given n value x = record { number = n; value = value; rows = x }
 
+-- a refused call, which is one answered 9 or above, leaves that row as it was
+abbrev pub valued : List ℕ → Reply → List ℕ
+valued [] a = []
+valued (v ∷ vs) a = pick (leb 9 (a .number)) v (a .value) ∷ vs
+
 abbrev pub gives : List ℕ → Told → Given
-gives value t = given (t .reply .number) (set value 0 (t .reply .value)) (t .rows)
+gives value t = given (t .reply .number) (valued value (t .reply)) (t .rows)

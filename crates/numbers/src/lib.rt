@@ -20,20 +20,23 @@ use parts::answer::number;
 use parts::answer::value as value_of;
 ghost use mathlib.Core.Path.{_≡_};
 ghost use mathlib.Core.List.{[]};
-ghost use lib.ListN.{set};
 ghost use Rattle.dtml.specs.Acts.{callOf};
 ghost use Rattle.dtml.specs.Table.{reply};
-ghost use Rattle.numbers.specs.Numbers.{rows, callNumbers, freshNumbers, given, gives};
+ghost use Rattle.numbers.specs.Numbers.{rows, callNumbers, freshNumbers, given, valued, gives};
 
-// Gives the answer's number, and puts its value into the row's first number, if there is one.
+// Gives the answer's number, and puts its value into the row's first number, if there is one and the call is not refused.
 fn answered(value: &mut [u64], answer: Answer) -> u64
-    ensures { λ r. ⌜ (r ≡ reply answer .number) × (now (value .exit) ≡ set (now (value .entry)) 0 (reply answer .value)) ⌝ }
+    ensures { λ r. ⌜ (r ≡ reply answer .number) × (now (value .exit) ≡ valued (now (value .entry)) (reply answer)) ⌝ }
 {
+    let n = number(answer);
+    if 9 <= n {
+        return n;
+    }
     if value.len() == 0 {
-        return number(answer);
+        return n;
     }
     value[0] = value_of(answer);
-    number(answer)
+    n
 }
 
 // A call.

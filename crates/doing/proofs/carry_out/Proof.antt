@@ -1,7 +1,7 @@
 -- `doing::carry_out` meets its contract: each arm is the call's own promise, put beside what the call does not touch.
-use mathlib.Core.Path.{refl, ap}
+use mathlib.Core.Path.{ap}
 use borrow.Author.Needs.{needs}
-use Rattle.doing.proofs.Carries.{nobody, on-one, on-none}
+use Rattle.doing.proofs.Carries.{nobody-there, on-one, on-none}
 use Rattle.dtml.specs.Acts.{callOf}
 use Rattle.doing.proofs.carry_out.Statement.{statement}
 use Rattle.doing.proofs.carry_out.Tie as tie
@@ -9,11 +9,18 @@ use Rattle.doing.proofs.carry_out.Tie as tie
 identifier-requires : tie.Need-identifier-requires
 identifier-requires c κs = search needs
 
+unfit-one-requires : tie.Need-unfit-one-requires
+unfit-one-requires c κs = search needs
+
+nobody-requires : tie.Need-nobody-requires
+nobody-requires c κs = search needs
+
 returns : tie.Need-returns
 returns c =
-    let at-identifier = c .before in
+    let at-if1 = c .before .before .before .before in
+    let at-identifier = at-if1 .before in
     let at-args = at-identifier .before .before .before .before in
-    nobody _ _ _ (at-args .args .act) _ (at-identifier .identifier .ensures) _ (c .if1 .taken) refl
+    nobody-there _ _ _ (at-args .args .act) _ (at-identifier .identifier .ensures) _ (at-if1 .if1 .taken) (c .before .unfit-one .ensures) (c .nobody .ensures)
 
 enum-told : tie.Need-enum-told
 enum-told c = search needs
@@ -202,7 +209,7 @@ returns-7 c =
     let at-if1 = at-act3 .before .before in
     let at-identifier = at-if1 .before in
     let at-args = at-identifier .before .before .before .before in
-    on-none _ _ _ (at-args .args .act) _ (at-identifier .identifier .ensures) _ _ _ _ (at-if1 .if1 .left) (ap callOf (at-act3 .act3 .given .1)) (at-flush .flush .ensures) (c .settled .ensures)
+    on-none _ _ _ (at-args .args .act) _ (at-identifier .identifier .ensures) _ _ _ _ (ap callOf (at-act3 .act3 .given .1)) (at-flush .flush .ensures) (c .settled .ensures)
 
 same-length-19 : tie.Need-same-length-19
 same-length-19 c = search needs
@@ -220,7 +227,7 @@ returns-8 c =
     let at-if1 = at-enum-told4 .before .before in
     let at-identifier = at-if1 .before in
     let at-args = at-identifier .before .before .before .before in
-    on-none _ _ _ (at-args .args .act) _ (at-identifier .identifier .ensures) _ _ _ _ (at-if1 .if1 .left) (ap callOf (at-enum-told4 .enum-told4 .given .1)) (at-crash .crash .ensures) (c .settled2 .ensures)
+    on-none _ _ _ (at-args .args .act) _ (at-identifier .identifier .ensures) _ _ _ _ (ap callOf (at-enum-told4 .enum-told4 .given .1)) (at-crash .crash .ensures) (c .settled2 .ensures)
 
 same-length-22 : tie.Need-same-length-22
 same-length-22 c = search needs
@@ -238,7 +245,7 @@ returns-9 c =
     let at-if1 = at-enum-told5 .before .before in
     let at-identifier = at-if1 .before in
     let at-args = at-identifier .before .before .before .before in
-    on-none _ _ _ (at-args .args .act) _ (at-identifier .identifier .ensures) _ _ _ _ (at-if1 .if1 .left) (ap callOf (at-enum-told5 .enum-told5 .given .1)) (at-recover .recover .ensures) (c .settled3 .ensures)
+    on-none _ _ _ (at-args .args .act) _ (at-identifier .identifier .ensures) _ _ _ _ (ap callOf (at-enum-told5 .enum-told5 .given .1)) (at-recover .recover .ensures) (c .settled3 .ensures)
 
 same-length-25 : tie.Need-same-length-25
 same-length-25 c = search needs
@@ -256,13 +263,15 @@ returns-10 c =
     let at-if1 = at-act4 .before .before in
     let at-identifier = at-if1 .before in
     let at-args = at-identifier .before .before .before .before in
-    on-none _ _ _ (at-args .args .act) _ (at-identifier .identifier .ensures) _ _ _ _ (at-if1 .if1 .left) (ap callOf (at-act4 .act4 .given .1)) (at-recover-up-to .recover-up-to .ensures) (c .settled4 .ensures)
+    on-none _ _ _ (at-args .args .act) _ (at-identifier .identifier .ensures) _ _ _ _ (ap callOf (at-act4 .act4 .given .1)) (at-recover-up-to .recover-up-to .ensures) (c .settled4 .ensures)
 
 pub carry-out-spec : {M : Type 1} → statement M
 carry-out-spec =
     tie.close
     (tie.spec
     identifier-requires
+    unfit-one-requires
+    nobody-requires
     returns
     enum-told
     begin-requires

@@ -1,8 +1,7 @@
--- `numbers::answered` meets its contract: a row with no number in it stays as it is.
+-- `numbers::answered` meets its contract: a refused call leaves the row for the value, a row with no number in it stays, and else the value is put.
 use native.Mathlib.Omega.{arith}
-use mathlib.Core.Path.{sym}
 use borrow.Author.Needs.{needs}
-use lib.Seq.{set-out}
+use Rattle.numbers.proofs.Whole.{kept-empty, kept-refused, put-value}
 use Rattle.numbers.proofs.answered.Statement.{statement}
 use Rattle.numbers.proofs.answered.Tie as tie
 
@@ -10,7 +9,10 @@ number-requires : tie.Need-number-requires
 number-requires c κs = search needs
 
 returns : tie.Need-returns
-returns c = (c .number .ensures, sym (set-out _ 0 _ (omega arith)))
+returns c = (c .before .number .ensures, kept-refused _ (c .before .number .ensures) _ (c .if1 .taken))
+
+returns-2 : tie.Need-returns-2
+returns-2 c = (c .before .before .number .ensures, kept-empty _ _ (c .if2 .taken))
 
 value-requires : tie.Need-value-requires
 value-requires c κs = search needs
@@ -18,14 +20,13 @@ value-requires c κs = search needs
 slice-write-value : tie.Need-slice-write-value
 slice-write-value c = search needs
 
-number-requires-2 : tie.Need-number-requires-2
-number-requires-2 c κs = search needs
-
 same-length : tie.Need-same-length
 same-length c = search needs
 
-returns-2 : tie.Need-returns-2
-returns-2 c = (c .number2 .ensures, rw (c .before .value .ensures))
+returns-3 : tie.Need-returns-3
+returns-3 c =
+    let told = c .before .before .before in
+    (told .number .ensures, put-value _ (told .number .ensures) (told .before .before .args .value .now) (c .value .ensures) (c .before .before .if1 .left))
 
 pub answered-spec : {M : Type 1} → statement M
 answered-spec =
@@ -33,8 +34,8 @@ answered-spec =
     (tie.spec
     number-requires
     returns
+    returns-2
     value-requires
     slice-write-value
-    number-requires-2
     same-length
-    returns-2)
+    returns-3)
