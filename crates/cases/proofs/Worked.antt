@@ -10,7 +10,8 @@ use Rattle.dtml.specs.Lines.{flushOf, lineAt, recoveryLine, crashTxs}
 use Rattle.dtml.specs.Store.{fresh}
 use Rattle.reader.specs.Trace.{ofKind, found, scriptUpTo}
 use Rattle.cases.specs.Cases.{holds, allHold}
-use Rattle.cases.specs.Table.{table, WorkedHistories, further, FurtherHistories}
+use Rattle.cases.specs.Table.{table, WorkedHistories}
+use Rattle.cases.specs.Further.{further, FurtherHistories}
 
 pub worked-histories : WorkedHistories
 unfolding allHold holds table replay digit put isMarked withMark clearOf countOf lowestOf standsFrom answers ask system act call unfitRows unfitTx unfitTxs unfitBeside unfit told liveWords noted tell dawn runs flushOf lineAt recoveryLine crashTxs fresh ofKind found scriptUpTo onesIn trailingZeros
