@@ -5,7 +5,7 @@ use mathlib.Core.Bool.{true}
 use mathlib.Core.List.{List, [], _∷_, _++_}
 use lib.ListN.{replicate}
 use Rattle.dtml.specs.Table.{Reply, says as answer}
-use Rattle.dtml.specs.Asked.{begin, read, write, commit, step, flush, crash, recover, Call, on, sys}
+use Rattle.dtml.specs.Asked.{begin, read, write, commit, step, crash, recover, Call, on, sys}
 use Rattle.cases.specs.Cases.{Schedule, given, trace, Claim, whole, says, lines, word, logged, bound, History, allHold}
 
 abbrev pub row : ℕ → Schedule → List Claim → History

@@ -18,7 +18,7 @@ use Rattle.dtml.specs.declared.Recovery.{Recovery}
 use Rattle.dtml.specs.Table.{says}
 use Rattle.dtml.specs.Store.{Memory, recordAt, fresh}
 use Rattle.dtml.specs.Asked.{begin, read, write, commit, step, flush, crash, recover, recoverUpTo, Call, on, sys, Did, Healed}
-use Rattle.dtml.specs.Lines.{lineAt, recoveryLine, even, stage, isLive}
+use Rattle.dtml.specs.Lines.{lineAt, recoveryLine, even}
 use Rattle.dtml.specs.Checks.{checks, unfit, notIdle}
 use Rattle.dtml.specs.Calls.{ask, upTo, system, act, call, refused}
 use Rattle.dtml.specs.History.{over, sees, Tale, last, laterAfter, taleAt, isE2, noted, World, tell, dawn, runs}

@@ -4,7 +4,7 @@ use Prim.Native.Nat.{ℕ, zero, suc, _+_, _-_, _≤_, _<_}
 use native.Mathlib.Omega.{arith}
 use borrow.Author.Tests.{leb-false, leb-true, eqb-false, not-false}
 use mathlib.Core.Path.{_≡_, refl, sym, ap, subst, _∙_}
-use mathlib.Core.Bool.{Bool, true, false, not}
+use mathlib.Core.Bool.{Bool, true, false}
 use mathlib.Core.Logic.{_⊎_, inl, inr}
 use mathlib.Core.List.{List, [], _∷_}
 use lib.ListN.{length, set, length-map, List·getD-map}
@@ -15,23 +15,23 @@ use Rattle.dtml.specs.declared.Tx.{Tx}
 use Rattle.dtml.specs.declared.Phase.{Phase}
 use Rattle.dtml.specs.declared.Phase.the-variants.{Fresh, Ready, Committed, Aborted, B1, B2, R1, R2, W1, W2, W3, W4, W5, W6, W7, E1, E2, E3}
 use Rattle.dtml.specs.declared.Recovery.{Recovery}
-use Rattle.dtml.specs.declared.Recovery.the-variants.{Idle, C1, C2, C3, C4, C5, C6}
+use Rattle.dtml.specs.declared.Recovery.the-variants.{Idle, C1, C2}
 use Rattle.dtml.specs.Table.{Reply, says}
 use Rattle.dtml.specs.Store.{Memory, memory, Store, store, size, recordAt, tx, fresh}
-use Rattle.dtml.specs.Asked.{Ask, begin, read, write, commit, step, flush, crash, recover, recoverUpTo, Call, on, sys, standsAt, Did, did, Healed, healed, Outcome, outcome}
+use Rattle.dtml.specs.Asked.{Ask, begin, read, write, commit, step, flush, crash, recover, recoverUpTo, Call, on, sys, Did, did, Healed, healed, Outcome, outcome}
 use Rattle.dtml.specs.Lines.{lineAt, recoveryLine, stage, isLive, crashTx, crashTxs, flushOf}
 use Rattle.dtml.specs.First.{Check, first}
 use Rattle.dtml.specs.Checks.{checks, unfit, unfitMemory, unfitRecovery, notIdle}
 use Rattle.dtml.specs.Calls.{ask, upTo, system, act, call, refused, makeFresh}
-use Rattle.dtml.specs.Figure1.{Line, RecoveryLine, c1-some, c1-none, c2, c3, c4, c5, c6}
+use Rattle.dtml.specs.Figure1.{RecoveryLine, c1-some, c1-none, c2, c3, c4, c5, c6}
 use Rattle.dtml.specs.Rules as rule
-use Rattle.dtml.specs.Rules.{Condition, order, FirstOf, NoneOf, FirstLine, Over, Cut, over, cut-off, RecoveryLines, Does, invokes, steps, flushes, crashes, recovers, spends, finishes, MadeFresh, made}
+use Rattle.dtml.specs.Rules.{by-read, by-write, by-flush, Condition, order, FirstOf, NoneOf, FirstLine, Over, Cut, over, cut-off, RecoveryLines, Does, invokes, steps, flushes, crashes, recovers, spends, finishes, MadeFresh, made}
 use Rattle.dtml.specs.Demands.{EveryCall}
 use Rattle.dtml.proofs.Words.{true-or-false, true-not-false, is-idle, idle-is, busy-is}
 use Rattle.dtml.proofs.Fit.{none, memory-fits, keeps, line-number, up-to-more, up-to-idle}
 use Rattle.dtml.proofs.Worlds.{Passes, act-small}
 use Rattle.dtml.proofs.Figure.{in-figure, only-figure, in-figure-recovery, only-figure-recovery}
-use Rattle.dtml.proofs.Tests.{Tests, at-least, busy, idle, not-fresh, not-ready, at-no-line, lengthTests, wrong-length, unfit-store}
+use Rattle.dtml.proofs.Tests.{Tests, at-least, word-past, busy, idle, not-fresh, not-ready, at-no-line, lengthTests, wrong-length, unfit-store}
 
 -- ---- the checks, in their order
 
@@ -77,14 +77,14 @@ each-check : (s : Store) (c : Call) → Each (checks s c) (order c) (Condition s
 each-check s (on t begin) =
     ((refl, unfit-store s, (refl, at-least 64 t, (refl, busy (s .rec), (refl, not-fresh (recordAt (s .txs) t .phase), tt)))))
 each-check s (on t (read w)) =
-    (refl, unfit-store s, (refl, at-least 64 t, (refl, at-least (size (s .mem)) w, (refl, busy (s .rec), (refl, not-ready (recordAt (s .txs) t .phase), tt)))))
+    (refl, unfit-store s, (refl, at-least 64 t, (refl, word-past (size (s .mem)) (on t (read w)) (by-read t refl), (refl, busy (s .rec), (refl, not-ready (recordAt (s .txs) t .phase), tt)))))
 each-check s (on t (write w v)) =
-    (refl, unfit-store s, (refl, at-least 64 t, (refl, at-least (size (s .mem)) w, (refl, busy (s .rec), (refl, not-ready (recordAt (s .txs) t .phase), tt)))))
+    (refl, unfit-store s, (refl, at-least 64 t, (refl, word-past (size (s .mem)) (on t (write w v)) (by-write t v refl), (refl, busy (s .rec), (refl, not-ready (recordAt (s .txs) t .phase), tt)))))
 each-check s (on t commit) =
     (refl, unfit-store s, (refl, at-least 64 t, (refl, busy (s .rec), (refl, not-ready (recordAt (s .txs) t .phase), tt))))
 each-check s (on t step) =
     (refl, unfit-store s, (refl, at-least 64 t, (refl, busy (s .rec), (refl, at-no-line (recordAt (s .txs) t .phase), tt))))
-each-check s (sys (flush w)) = (refl, unfit-store s, (refl, at-least (size (s .mem)) w, tt))
+each-check s (sys (flush w)) = (refl, unfit-store s, (refl, word-past (size (s .mem)) (sys (flush w)) (by-flush refl), tt))
 each-check s (sys crash) = (refl, unfit-store s, tt)
 each-check s (sys recover) = (refl, unfit-store s, (refl, idle (s .rec), tt))
 each-check s (sys (recoverUpTo b)) = (refl, unfit-store s, (refl, idle (s .rec), tt))

@@ -5,13 +5,13 @@ use Prim.Native.Nat.{ℕ, zero, suc, _<_}
 use native.Mathlib.Omega.{arith}
 use borrow.Author.Tests.{leb-false}
 use mathlib.Core.Path.{_≡_, refl, sym, ap, subst, _∙_}
-use mathlib.Core.Bool.{Bool, true, false}
+use mathlib.Core.Bool.{true, false}
 use mathlib.Core.Logic.{_⊎_, inl, inr}
 use mathlib.Core.List.{List, [], _∷_}
 use lib.ListN.{length, set, replicate, List·getD-map, getD-replicate}
 use lib.Seq.{getD-set-same, getD-set-other}
 use lib.Dec.{eqb, leb}
-use Rattle.bits.specs.Marks.{pick, isMarked}
+use Rattle.bits.specs.Marks.{isMarked}
 use Rattle.dtml.specs.declared.Tx.{Tx}
 use Rattle.dtml.specs.declared.Phase.{Phase}
 use Rattle.dtml.specs.declared.Phase.the-variants.{Fresh, Ready, Committed, Aborted, B1, B2, R1, R2, W1, W2, W3, W4, W5, W6, W7, E1, E2, E3}
@@ -23,7 +23,7 @@ use Rattle.dtml.specs.Checks.{checks}
 use Rattle.dtml.specs.Calls.{ask, system, act}
 use Rattle.dtml.specs.History.{over, Tale, blank, begins, asks, askedWrite, closes, endsOn, told, withTale, Past, last, lastOf, laterAfter, taleAt, isE2, noted, World, tell, dawn, runs}
 use Rattle.dtml.specs.Demands.{OutOf, Different}
-use Rattle.dtml.proofs.Invariant.{Free, Owner, Lock, Ender}
+use Rattle.dtml.proofs.Invariant.{Free, Owner, Ender}
 use Rattle.dtml.proofs.Words.{same-or-not, true-not-false, pick-case}
 use Rattle.dtml.proofs.Roles.{Role, free, owner, ender, role}
 use Rattle.dtml.proofs.Worlds.{Passes, acted, tell-keeps, InvW, tell-inv}

@@ -16,14 +16,15 @@ use Rattle.dtml.specs.declared.Phase.{Phase}
 use Rattle.dtml.specs.declared.Phase.the-variants.{Fresh, Ready, Committed, Aborted, B1, B2, R1, R2, W1, W2, W3, W4, W5, W6, W7, E1, E2, E3}
 use Rattle.dtml.specs.declared.Recovery.{Recovery}
 use Rattle.dtml.specs.declared.Recovery.the-variants.{Idle, C1, C2, C3, C4, C5, C6}
-use Rattle.dtml.specs.Store.{Memory, Store, size, recordAt}
+use Rattle.dtml.specs.Store.{Store, size, recordAt}
+use Rattle.dtml.specs.Asked.{begin, read, write, commit, step, flush, crash, recover, recoverUpTo, Call, on, sys}
 use Rattle.dtml.specs.Lines.{stage}
 use Rattle.dtml.specs.First.{anyOf}
 use Rattle.dtml.specs.Checks.{unfitRows, phasePast, unfitRecovery, unfitTx, unfitTxs, unfitBeside, unfitMemory, unfit, notIdle, isNew, isWaiting, isAtLine}
-use Rattle.dtml.specs.Rules.{WrongLength, pers-differs, old-differs, no-word, above-256, not-64, Names, at-R1, at-W1, at-W2, at-W3, at-W4, at-W5, at-W6, at-W7, RecoveryNames, at-C3, at-C4, at-C5, Unfit, lengths, mark-past, glb-above, loc-above, phase-past, recovery-past, C2-unmarked, NoLine}
+use Rattle.dtml.specs.Rules.{Asks, by-read, by-write, by-flush, WrongLength, pers-differs, old-differs, no-word, above-256, not-64, Names, at-R1, at-W1, at-W2, at-W3, at-W4, at-W5, at-W6, at-W7, RecoveryNames, at-C3, at-C4, at-C5, Unfit, lengths, mark-past, glb-above, loc-above, phase-past, recovery-past, C2-unmarked, NoLine}
 use Rattle.dtml.proofs.Words.{true-or-false, true-not-false, is-idle, idle-is, none-marked}
 use Rattle.dtml.proofs.Asks.{new-fresh, waiting-ready}
-use Rattle.dtml.proofs.Fit.{last, none, FitBeside, FitMemory, memory-fits, FitTx, tx-fits}
+use Rattle.dtml.proofs.Fit.{last, none, FitMemory, memory-fits, tx-fits}
 use Rattle.dtml.proofs.Figure.{all-unmarked}
 
 pub record Tests (b : Bool) (P : Type 0) : Type 0 where
@@ -34,6 +35,29 @@ pub record Tests (b : Bool) (P : Type 0) : Type 0 where
 
 pub at-least : (n w : ℕ) → Tests (leb n w) (n ≤ w)
 at-least n w = record { holds = leb-true n w; fails = λ e h. let z = leb-false n w e in omega arith }
+
+-- the word that a call names is there once
+abbrev wordOf : Call → ℕ
+wordOf (on t begin) = 0
+wordOf (on t (read w)) = w
+wordOf (on t (write w v)) = w
+wordOf (on t commit) = 0
+wordOf (on t step) = 0
+wordOf (sys (flush w)) = w
+wordOf (sys crash) = 0
+wordOf (sys recover) = 0
+wordOf (sys (recoverUpTo b)) = 0
+
+named : (c : Call) (w : ℕ) → Asks c w → wordOf c ≡ w
+named c w (by-read t e) = ap wordOf e
+named c w (by-write t v e) = ap wordOf e
+named c w (by-flush e) = ap wordOf e
+
+pub word-past : (n : ℕ) (c : Call) → Asks c (wordOf c) → Tests (leb n (wordOf c)) ((w : ℕ) × Asks c w × (n ≤ w))
+word-past n c a = record {
+  holds = λ e. (wordOf c, a, leb-true n (wordOf c) e);
+  fails = λ e h. let z = leb-false n (wordOf c) e in let y = named c (h .0) (h .1) in let x = h .2 in omega arith;
+}
 
 pub busy : (r : Recovery) → Tests (notIdle r) (r ≡ Idle → ⊥)
 busy r = record { holds = λ e q. true-not-false e (is-idle r q); fails = λ e f. f (idle-is r e) }

@@ -1,10 +1,10 @@
 -- Demands 2 and 3 of the customer's letter, each as one statement, over every schedule of calls from a fresh store of every size.
 use Prim.Native.Nat.{ℕ, _+_, _-_, _*_, _≤_, _<_, min}
 use mathlib.Core.Path.{_≡_}
-use mathlib.Core.Bool.{true, false}
+use mathlib.Core.Bool.{false}
 use mathlib.Core.Logic.{_⊎_, _↔_}
 use mathlib.Core.List.{List, [], _∷_}
-use lib.ListN.{length, getD, set, replicate}
+use lib.ListN.{length, getD, replicate}
 use lib.Dec.{leb}
 use Rattle.bits.specs.Marks.{pick, isMarked, countOf}
 use Rattle.dtml.specs.declared.Phase.the-variants.{E2, E3}

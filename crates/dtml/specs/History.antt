@@ -9,7 +9,7 @@ use Rattle.bits.specs.Marks.{pick}
 use Rattle.dtml.specs.declared.Phase.{Phase}
 use Rattle.dtml.specs.declared.Phase.the-variants.{Fresh, Ready, Committed, Aborted, B1, B2, R1, R2, W1, W2, W3, W4, W5, W6, W7, E1, E2, E3}
 use Rattle.dtml.specs.Table.{Reply}
-use Rattle.dtml.specs.Store.{Store, recordAt, fresh}
+use Rattle.dtml.specs.Store.{Store, fresh}
 use Rattle.dtml.specs.Asked.{Ask, begin, read, write, commit, step, flush, crash, recover, recoverUpTo, Call, on, sys, standsAt}
 use Rattle.dtml.specs.Calls.{call}
 

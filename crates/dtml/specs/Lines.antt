@@ -12,7 +12,7 @@ use Rattle.dtml.specs.declared.Stage.{Stage}
 use Rattle.dtml.specs.declared.Stage.the-variants.{New, Waiting, AtLine, Over}
 use Rattle.dtml.specs.declared.Recovery.{Recovery}
 use Rattle.dtml.specs.declared.Recovery.the-variants.{Idle, C1, C2, C3, C4, C5, C6}
-use Rattle.dtml.specs.Table.{Reply, says}
+use Rattle.dtml.specs.Table.{says}
 use Rattle.dtml.specs.Store.{Memory, memory, tx}
 use Rattle.dtml.specs.Asked.{Did, did, Healed, healed}
 

@@ -7,7 +7,7 @@ use lib.ListN.{length}
 use Rattle.dtml.specs.declared.Recovery.{Recovery}
 use Rattle.dtml.specs.declared.Recovery.the-variants.{Idle, C1, C2, C3, C4, C5, C6}
 use Rattle.dtml.specs.declared.Tx.{Tx}
-use Rattle.dtml.specs.Store.{Store, store, tx}
+use Rattle.dtml.specs.Store.{Store, tx}
 use Rattle.spelling.specs.Spelling.{spelt, spellRecovery, readRecovery}
 use Rattle.spelling.proofs.Again.{phase-again, recovery-again}
 use Rattle.numbers.specs.Numbers.{at, low, spellTxs, readTxs, spellStore, readStore}

@@ -12,7 +12,7 @@ use Rattle.bits.specs.Marks.{pick}
 use Rattle.dtml.specs.declared.Phase.the-variants.{Fresh}
 use Rattle.dtml.specs.declared.Tx.{Tx}
 use Rattle.dtml.specs.Table.{Reply, says, reply}
-use Rattle.dtml.specs.Store.{Store, memory, store, tx}
+use Rattle.dtml.specs.Store.{Store, memory, tx}
 use Rattle.dtml.specs.Lines.{crashTxs}
 use Rattle.dtml.specs.Asked.{Call, on, sys}
 use Rattle.dtml.specs.First.{anyOf}

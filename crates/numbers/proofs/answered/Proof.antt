@@ -1,5 +1,4 @@
 -- `numbers::answered` meets its contract: a refused call leaves the row for the value, a row with no number in it stays, and else the value is put.
-use native.Mathlib.Omega.{arith}
 use borrow.Author.Needs.{needs}
 use Rattle.numbers.proofs.Whole.{kept-empty, kept-refused, put-value}
 use Rattle.numbers.proofs.answered.Statement.{statement}
