@@ -32,7 +32,7 @@ use Rattle.doing.specs.Carrying.{Left}
 use Rattle.text.specs.Buffer.{Buffer, buffer}
 use Rattle.day.specs.Replay.{Ending, Replay, unfitFor, replay}
 use Rattle.day.specs.Ends.{endingOf, Ends, begins, EndsBeside}
-use Rattle.unique.specs.Unique.{Settles, Turned, Mended, Called, Under, Done, Printed, Closed, ClosedBeside, readTurned, readMended, readCalled, readUnder, readMade, readDone, readPrinted, UniqueOutcomes}
+use Rattle.unique.specs.Unique.{Settles, Turned, Mended, Called, Under, Done, Printed, Closed, ClosedBeside, readTurned, readMended, readCalled, readUnder, readMade, readDone, readNext, readSeen, readPrinted, UniqueOutcomes}
 
 -- a reading with an inverse
 settles : {X Y : Type 0} (f : X → Y) (back : Y → X) → ((x : X) → back (f x) ≡ x) → Settles f
@@ -276,7 +276,8 @@ unique-outcomes =
       called = settles readCalled calledOf called-back;
       under = settles readUnder underOf under-back;
       made = settles readMade (λ x. x) (λ x. refl);
-      found = settles foundOf itemOf item-back;
+      next = settles readNext (λ f. record { item = itemOf (f .0); reader = f .1 }) (λ x. ap (λ (i : Item). record { item = i; reader = x .reader }) (item-back (x .item)));
+      seen = settles readSeen (λ f. record { item = itemOf (f .0); after = f .1 }) (λ x. ap (λ (i : Item). record { item = i; after = x .after }) (item-back (x .item)));
       printed = settles readPrinted printedOf (λ x. refl);
       closed = closed-same;
       closedBeside = beside-same;

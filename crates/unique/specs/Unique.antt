@@ -14,6 +14,10 @@ use Rattle.machine.specs.declared.After.{After}
 use Rattle.machine.specs.declared.work.Worked.{Worked}
 use Rattle.machine.specs.Given.{storeOf, outcomeOf}
 use Rattle.machine.specs.Working.{Work, workedOf, Renewed, renewedOf}
+use Rattle.reader.specs.declared.Seen.{Seen}
+use Rattle.reader.specs.declared.place.Reader.{Reader}
+use Rattle.reader.specs.declared.place.Read.{Read}
+use Rattle.reader.specs.Trace.{Found}
 use Rattle.reader.specs.Said.{foundOf}
 use Rattle.doing.specs.declared.Carried.{Carried}
 use Rattle.doing.specs.Carrying.{Left, leftOf}
@@ -91,6 +95,12 @@ readMade x = renewedOf (x .made) (x .vol) (x .pers) (x .old)
 abbrev pub readDone : Done → Left
 readDone x = leftOf (x .carried) (x .mem)
 
+abbrev pub readNext : Read → Found × Reader
+readNext x = (foundOf (x .item), x .reader)
+
+abbrev pub readSeen : Seen → Found × ℕ
+readSeen x = (foundOf (x .item), x .after)
+
 abbrev pub readPrinted : Printed → Buffer
 readPrinted x = buffer (x .bytes) (x .at)
 
@@ -111,8 +121,9 @@ pub record UniqueOutcomes : Type 1 where
   -- machine's work and renew, beside that row
   pub under : Settles readUnder
   pub made : Settles readMade
-  -- reader's next and read_at
-  pub found : Settles foundOf
+  -- reader's next, with the reader moved on, and read_at, with the place after
+  pub next : Settles readNext
+  pub seen : Settles readSeen
   -- text
   pub printed : Settles readPrinted
   -- trace's replay, on the lent row of records
