@@ -34,9 +34,9 @@ use Rattle.machine.specs.declared.Held.{Held}
 use Rattle.machine.specs.Given.{storeOf}
 use Rattle.reader.specs.declared.Item.{Item}
 use Rattle.reader.specs.declared.Item.the-variants.{End, Stops, Does}
-use Rattle.reader.specs.Said.{foundOf}
+use Rattle.reader.specs.Said.{foundOf, placeAfter}
 use Rattle.reader.specs.Trace.{kinds, does, found, Script, script, scriptOf}
-use Rattle.reader.proofs.Scripts.{AllAsk, scriptFrom, script-more, script-end, script-stops, script-does, found-asks, found-bytes, found-refusal}
+use Rattle.reader.proofs.Scripts.{AllAsk, scriptFrom, script-more, script-end, script-stops, script-does, found-asks, found-bytes, after-inside, found-refusal}
 use Rattle.text.specs.Buffer.{Buffer, buffer, puts}
 use Rattle.text.proofs.Laws.{puts-length, puts-append, stop-short, totals-short}
 use Rattle.doing.specs.declared.Carried.{Carried}
@@ -398,26 +398,21 @@ module _ {trace : List ℕ} {n : ℕ} {out₀ vol pers old out marks : List ℕ}
         short = text-so n trace out₀ s totals at (buffer out place) (loop .0) k e small (loop .1);
       }
 
-  module _ {act : Act} {bytes : ℕ} {item : Item} (said : foundOf item ≡ found (drop at trace)) (is : item ≡ Does act bytes) where
+  module _ {act : Act} {bytes after : ℕ} {item : Item} (said : foundOf item ≡ found (drop at trace)) (moved : after ≡ placeAfter at (found (drop at trace)))
+      (is : item ≡ Does act bytes) where
     here : found (drop at trace) ≡ does (callOf act) bytes
     here = sym said ∙ ap foundOf is
+
+    past-it : after ≡ at + bytes
+    past-it = moved ∙ ap (placeAfter at) here
 
     pub one-line-so : (a : Reply) → linesIn (callOf act) a ≤ 1
     one-line-so = found-asks OneLine (drop at trace) (callOf act) bytes lines-one here
 
-    pub nearer : length trace - (at + bytes) < length trace - at
+    pub nearer : length trace - after < length trace - at
     nearer =
-        let b = found-bytes (drop at trace) (callOf act) bytes here in
-        let l = length-drop at trace in
-        let w = loop .0 .within in
-        omega arith
-
-    pub next-place : at + bytes ≤ 65536
-    next-place =
-        let b = found-bytes (drop at trace) (callOf act) bytes here in
-        let l = length-drop at trace in
-        let w = loop .0 .within in
-        let m = loop .1 in
+        let b = after-inside trace at (callOf act) bytes here in
+        let e = past-it in
         omega arith
 
     module _ {vol′ pers′ old′ out′ marks′ : List ℕ} {glb′ i : ℕ} {rows′ : List Tx} {totals′ : Totals} {place′ : ℕ} (d : Tx) (l : Carried)
@@ -427,7 +422,7 @@ module _ {trace : List ℕ} {n : ℕ} {out₀ vol pers old out marks : List ℕ}
         (printed : buffer out′ place′ ≡ puts (buffer out place) (answerText (totals′ .records) (reply (l .answer))))
         (short : length (answerText (totals′ .records) (reply (l .answer))) ≤ 30) where
       pub again : rows′ ≡ callTxs (callOf act) (set rows i (l .tx))
-          → Looping trace n out₀ vol′ pers′ old′ out′ marks′ glb′ (l .recovery) rows′ totals′ (at + bytes) place′
+          → Looping trace n out₀ vol′ pers′ old′ out′ marks′ glb′ (l .recovery) rows′ totals′ after place′
       unfolding counted
       again e =
           let low : i < length rows = rw (slot, rows-long) (slot-low (callOf act)) in
@@ -437,16 +432,16 @@ module _ {trace : List ℕ} {n : ℕ} {out₀ vol pers old out marks : List ℕ}
           (leftOf l (memory vol′ pers′ old′ marks′ glb′))
           (carried ∙ ap (λ (x : Tx). carry (memory vol pers old marks glb) recovery x (callOf act)) same)
           (rw tallied at short) in (
-            subst (λ (o : Buffer). Going n trace out₀ (store (memory vol′ pers′ old′ marks′ glb′) (l .recovery) rows′) totals′ (at + bytes) o)
+            subst (λ (o : Buffer). Going n trace out₀ (store (memory vol′ pers′ old′ marks′ glb′) (l .recovery) rows′) totals′ after o)
                 (sym printed)
-                (rw (e, tallied, slot) step),
+                (rw (past-it, e, tallied, slot) step),
             loop .1,
           )
 
       pub again-crash : reachesAll (callOf act) ≡ true → rows′ ≡ crashTxs (set rows i (l .tx))
-          → Looping trace n out₀ vol′ pers′ old′ out′ marks′ glb′ (l .recovery) rows′ totals′ (at + bytes) place′
+          → Looping trace n out₀ vol′ pers′ old′ out′ marks′ glb′ (l .recovery) rows′ totals′ after place′
       again-crash k e = again (e ∙ crashed-rows (callOf act) _ k)
 
       pub again-kept : reachesAll (callOf act) ≡ false → rows′ ≡ set rows i (l .tx)
-          → Looping trace n out₀ vol′ pers′ old′ out′ marks′ glb′ (l .recovery) rows′ totals′ (at + bytes) place′
+          → Looping trace n out₀ vol′ pers′ old′ out′ marks′ glb′ (l .recovery) rows′ totals′ after place′
       again-kept k e = again (e ∙ kept-rows (callOf act) _ k)

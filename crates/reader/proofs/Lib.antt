@@ -1,2 +1,3 @@
 mod Places
+mod Landing
 pub mod Scripts

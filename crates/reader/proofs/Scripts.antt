@@ -59,6 +59,13 @@ found-bytes bs c k =
         let l = length-take-le (two bs 0) (drop 2 bs) (rw (length-drop 2 bs) (omega arith)) in
         (omega arith, omega arith)
 
+-- the place after a record lies inside the trace
+pub after-inside : (bs : List ℕ) (at : ℕ) (c : Call) (k : ℕ) → found (drop at bs) ≡ does c k → (at < at + k) × (at + k ≤ length bs)
+after-inside bs at c k e =
+    let b = found-bytes (drop at bs) c k e in
+    let l = length-drop at bs in
+    (omega arith, omega arith)
+
 -- what holds of every call that the table's rows ask for
 abbrev pub AllAsk : (Call → Type 0) → List Kind → Type 0
 AllAsk P [] = Unit

@@ -1,17 +1,29 @@
 -- What the reader gives back, as the definitions of the trace have it.
-use Prim.Native.Nat.{ℕ}
+use Prim.Native.Nat.{ℕ, _+_}
 use mathlib.Core.List.{List}
+use lib.ListN.{drop}
+use denote.Ref.{now}
 use Rattle.dtml.specs.First.{first}
 use Rattle.dtml.specs.Acts.{callOf}
 use Rattle.reader.specs.declared.Item.{Item}
 use Rattle.reader.specs.declared.Item.the-variants.{End, Stops, Does}
+use Rattle.reader.specs.declared.place.Reader.{Reader}
 use Rattle.reader.specs.declared.Header.{Header}
-use Rattle.reader.specs.Trace.{Found, end, stops, does, headerChecks, wordsOf}
+use Rattle.reader.specs.Trace.{Found, end, stops, does, headerChecks, wordsOf, found}
 
 abbrev pub foundOf : Item → Found
 foundOf End = end
 foundOf (Stops refusal) = stops refusal
 foundOf (Does act bytes) = does (callOf act) bytes
+
+-- where a reader goes from a place: past a record that asks for something; at the trace's end, or at a record that is refused, it stays
+abbrev pub placeAfter : ℕ → Found → ℕ
+placeAfter at end = at
+placeAfter at (stops refusal) = at
+placeAfter at (does call bytes) = at + bytes
+
+abbrev pub movedOn : Reader → Reader
+movedOn d = record { trace = d .trace; at = placeAfter (d .at) (found (drop (d .at) (now (d .trace)))) }
 
 -- a refusal, or N
 unfoldable pub headerOf : List ℕ → Header

@@ -12,6 +12,12 @@ pub enum Item {
     Does { act: Act, bytes: usize },
 }
 
+// What stands at a place, and the place after it: past a record that asks for something; else there is nothing to go past, and it is the same place.
+pub struct Seen {
+    pub item: Item,
+    pub after: usize,
+}
+
 // What the header says: a refusal, 0 if there is none, and N.
 pub struct Header {
     pub refusal: u64,

@@ -1,12 +1,13 @@
 // The header, and the record at a place.
 use crate::Header;
 use crate::Item;
+use crate::Seen;
 use crate::decode::record;
 use crate::decode::two;
 ghost use mathlib.Core.Path.{_≡_};
 ghost use lib.ListN.{drop};
 ghost use Rattle.reader.specs.Trace.{found};
-ghost use Rattle.reader.specs.Said.{foundOf, headerOf};
+ghost use Rattle.reader.specs.Said.{foundOf, placeAfter, headerOf};
 
 fn refused(number: u64) -> Header
     ensures { λ r. ⌜ r ≡ record { refusal = number; words = 0 } ⌝ }
@@ -46,7 +47,7 @@ pub fn header(trace: &[u8]) -> Header
 }
 
 // The record at a place; past the trace's end there is none.
-pub(crate) fn item_at(trace: &[u8], at: usize) -> Item
+fn item_at(trace: &[u8], at: usize) -> Item
     ensures { λ r. ⌜ foundOf r ≡ found (drop at (now (trace .entry))) ⌝ }
 {
     if trace.len() <= at {
@@ -67,4 +68,17 @@ pub(crate) fn item_at(trace: &[u8], at: usize) -> Item
     let start = at + 2;
     let end = start + long;
     record(&trace[start..end])
+}
+
+// The same with the place after it.
+pub(crate) fn seen_at(trace: &[u8], at: usize) -> Seen
+    ensures { λ r. ⌜ (foundOf (r .item) ≡ found (drop at (now (trace .entry)))) × (r .after ≡ placeAfter at (found (drop at (now (trace .entry))))) ⌝ }
+{
+    let item = item_at(trace, at);
+    let after = match item {
+        Item::Does { bytes, .. } => at + bytes,
+        Item::Stops { .. } => at,
+        Item::End => at,
+    };
+    Seen { item, after }
 }

@@ -103,9 +103,11 @@ pub(crate) fn run(
     let mut at: usize = 3;
     let mut place: usize = 0;
     loop {
-        let item = read_at(trace, at);
+        let read = read_at(trace, at);
+        let item = read.item;
+        let after = read.after;
         match item {
-            Item::Does { act, bytes } => {
+            Item::Does { act, .. } => {
                 let i = slot(act);
                 let tx = rows[i];
                 let log = marks;
@@ -113,7 +115,7 @@ pub(crate) fn run(
                 let answer = done.answer;
                 totals = counted(totals, recovery, log, act, answer);
                 place = put_answer_if(out, place, totals.records, answer);
-                at += bytes;
+                at = after;
                 recovery = done.recovery;
                 let turned = done.tx;
                 rows[i] = turned;

@@ -18,7 +18,9 @@ use Rattle.machine.specs.declared.After.{After}
 use Rattle.machine.specs.declared.work.Worked.{Worked}
 use Rattle.machine.specs.Working.{Renewed}
 use Rattle.numbers.specs.Numbers.{Rows, rows, Given, given}
-use Rattle.reader.specs.declared.Item.{Item}
+use Rattle.reader.specs.declared.Seen.{Seen}
+use Rattle.reader.specs.declared.place.Reader.{Reader}
+use Rattle.reader.specs.declared.place.Read.{Read}
 use Rattle.reader.specs.Trace.{Found}
 use Rattle.reader.specs.Said.{foundOf}
 use Rattle.text.specs.Buffer.{Buffer, buffer}
@@ -48,9 +50,18 @@ module _ {W : Type 0} where
   turned : {m : Memory} {d : Did} (x y : Turn × W) → didOf (x .0) m ≡ d → didOf (y .0) m ≡ d → _≡_ {A = Turn × W} (x .0, x .1) (y .0, x .1)
   turned x y p q = ap (λ (z : Turn × Memory). (z .0, x .1)) (turn-same (x .0) (y .0) p q)
 
-  -- what stands at a place of a trace
-  found : {d : Found} (x y : Item × W) → foundOf (x .0) ≡ d → foundOf (y .0) ≡ d → _≡_ {A = Item × W} (x .0, x .1) (y .0, x .1)
-  found x y p q = ap (λ z. (z, x .1)) (found-same (x .0) (y .0) p q)
+  -- what stands at a place of a trace, with the reader that has moved on, or with the place after it
+  read : {d : Found} {r : Reader} (x y : Read × W) → (foundOf (x .0 .item) ≡ d) × (x .0 .reader ≡ r) → (foundOf (y .0 .item) ≡ d) × (y .0 .reader ≡ r)
+      → _≡_ {A = Read × W} (x .0, x .1) (y .0, x .1)
+  read x y p q =
+      ap (λ z. (record { item = z; reader = x .0 .reader }, x .1)) (found-same (x .0 .item) (y .0 .item) (p .0) (q .0))
+      ∙ ap (λ z. (record { item = y .0 .item; reader = z }, x .1)) (p .1 ∙ sym (q .1))
+
+  seen : {d : Found} {n : ℕ} (x y : Seen × W) → (foundOf (x .0 .item) ≡ d) × (x .0 .after ≡ n) → (foundOf (y .0 .item) ≡ d) × (y .0 .after ≡ n)
+      → _≡_ {A = Seen × W} (x .0, x .1) (y .0, x .1)
+  seen x y p q =
+      ap (λ z. (record { item = z; after = x .0 .after }, x .1)) (found-same (x .0 .item) (y .0 .item) (p .0) (q .0))
+      ∙ ap (λ z. (record { item = y .0 .item; after = z }, x .1)) (p .1 ∙ sym (q .1))
 
   -- a place and a buffer
   printed : {d : Buffer} (x y : ℕ × (List ℕ × W)) → buffer (x .1 .0) (x .0) ≡ d → buffer (y .1 .0) (y .0) ≡ d
@@ -163,6 +174,6 @@ unique-outcomes 𝓤 =
       trace-replay = (λ κs a. refl, λ H A mem run κs a g x y. both 𝓤 (λ p q. ap (λ (z : Closed). (z .ended, (tt, (z .vol, (z .pers, (z .old, (z .txs, (tt, (z .out, tt))))))))) (closed-same _ _ (closed x) (closed y) p q)));
       host-register-replay = (λ κs a. refl, λ H A mem run κs a g x y. both 𝓤 (λ p q. ap (λ (z : Buffer). (z .at, (tt, (z .bytes, tt)))) (p ∙ sym q)));
       reader-header = (λ κs a. refl, λ H A mem run κs a g x y. both 𝓤 (result x y));
-      reader-next = (λ κs a. refl, λ H A mem run κs a g x y. both 𝓤 (found x y));
-      reader-read-at = (λ κs a. refl, λ H A mem run κs a g x y. both 𝓤 (found x y));
+      reader-next = (λ κs a. refl, λ H A mem run κs a g x y. both 𝓤 (read x y));
+      reader-read-at = (λ κs a. refl, λ H A mem run κs a g x y. both 𝓤 (seen x y));
     }

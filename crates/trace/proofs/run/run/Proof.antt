@@ -6,7 +6,7 @@ use mathlib.Core.Path.{refl, sym, _∙_}
 use borrow.Author.Needs.{needs}
 use lib.ListN.{length}
 use Rattle.day.proofs.Whole.{given-back}
-use Rattle.day.proofs.Going.{Looping, looping-start, start-pers, start-old, rows-long, vol-long, pers-long, old-long, out-long, few-records, next-record, next-number, one-line-so, at-end, refusal-small, at-refusal, over, nearer, next-place, again-crash, again-kept}
+use Rattle.day.proofs.Going.{Looping, looping-start, start-pers, start-old, rows-long, vol-long, pers-long, old-long, out-long, few-records, next-record, next-number, one-line-so, at-end, refusal-small, at-refusal, over, nearer, again-crash, again-kept}
 use Rattle.trace.proofs.run.run.Statement.{statement}
 use Rattle.trace.proofs.run.run.Tie as tie
 
@@ -55,20 +55,13 @@ counted-requires c κs =
     let at-item = c .before .before .before .before .before .before .before .before .before .before .before .before .before .before .before in
     let at-read-at = at-item .before .before in
     let at-loop = at-read-at .before in
-    (few-records (at-loop .loop .inv), one-line-so (at-loop .loop .inv) (at-read-at .read-at .ensures) (at-item .item .given .1) _)
+    (few-records (at-loop .loop .inv), one-line-so (at-loop .loop .inv) (at-read-at .read-at .ensures .0) (at-read-at .read-at .ensures .1) (at-item .item .given .1) _)
 
 put-answer-if-requires : tie.Need-put-answer-if-requires Inv-loop μ-loop
 put-answer-if-requires c κs =
     let at-counted = c .before in
     let at-loop = at-counted .before .before .before .before .before .before .before .before .before .before .before .before .before .before .before .before .before .before .before in
     next-number (at-loop .loop .inv) _ _ _ (at-counted .counted .ensures)
-
-add-at : tie.Need-add-at Inv-loop μ-loop
-add-at c =
-    let at-item = c .before .before .before .before .before .before .before .before .before .before .before .before .before .before .before .before .before .before .before .before in
-    let at-read-at = at-item .before .before in
-    let at-loop = at-read-at .before in
-    let z = next-place (at-loop .loop .inv) (at-read-at .read-at .ensures) (at-item .item .given .1) in omega arith
 
 mul-rows : tie.Need-mul-rows Inv-loop μ-loop
 mul-rows c =
@@ -92,7 +85,7 @@ loop-less c =
     let at-item = c .before .before .before .before .before .before .before .before .before .before .before .before .before .before .before .before .before .before .before .before .before .before .before .before in
     let at-read-at = at-item .before .before in
     let at-loop = at-read-at .before in
-    nearer (at-loop .loop .inv) (at-read-at .read-at .ensures) (at-item .item .given .1)
+    nearer (at-loop .loop .inv) (at-read-at .read-at .ensures .0) (at-read-at .read-at .ensures .1) (at-item .item .given .1)
 
 loop-again : tie.Need-loop-again Inv-loop μ-loop
 loop-again c =
@@ -105,14 +98,14 @@ loop-again c =
     let at-item = at-slot .before .before in
     let at-read-at = at-item .before .before in
     let at-loop = at-read-at .before in
-    again-crash (at-loop .loop .inv) (at-read-at .read-at .ensures) (at-item .item .given .1) _ (at-carry-out .carry-out .result) (at-slot .slot .ensures .0) (at-carry-out .carry-out .ensures) (at-counted .counted .ensures) (at-put-answer-if .put-answer-if .ensures .0) (at-put-answer-if .put-answer-if .ensures .1) (sym (at-reaches-all .reaches-all .ensures) ∙ at-if1 .if1 .taken) (c .crash-txs .ensures)
+    again-crash (at-loop .loop .inv) (at-read-at .read-at .ensures .0) (at-read-at .read-at .ensures .1) (at-item .item .given .1) _ (at-carry-out .carry-out .result) (at-slot .slot .ensures .0) (at-carry-out .carry-out .ensures) (at-counted .counted .ensures) (at-put-answer-if .put-answer-if .ensures .0) (at-put-answer-if .put-answer-if .ensures .1) (sym (at-reaches-all .reaches-all .ensures) ∙ at-if1 .if1 .taken) (c .crash-txs .ensures)
 
 loop-less-2 : tie.Need-loop-less-2 Inv-loop μ-loop
 loop-less-2 c =
     let at-item = c .before .before .before .before .before .before .before .before .before .before .before .before .before .before .before .before .before .before .before .before .before .before .before in
     let at-read-at = at-item .before .before in
     let at-loop = at-read-at .before in
-    nearer (at-loop .loop .inv) (at-read-at .read-at .ensures) (at-item .item .given .1)
+    nearer (at-loop .loop .inv) (at-read-at .read-at .ensures .0) (at-read-at .read-at .ensures .1) (at-item .item .given .1)
 
 loop-again-2 : tie.Need-loop-again-2 Inv-loop μ-loop
 loop-again-2 c =
@@ -124,7 +117,7 @@ loop-again-2 c =
     let at-item = at-slot .before .before in
     let at-read-at = at-item .before .before in
     let at-loop = at-read-at .before in
-    again-kept (at-loop .loop .inv) (at-read-at .read-at .ensures) (at-item .item .given .1) _ (at-carry-out .carry-out .result) (at-slot .slot .ensures .0) (at-carry-out .carry-out .ensures) (at-counted .counted .ensures) (at-put-answer-if .put-answer-if .ensures .0) (at-put-answer-if .put-answer-if .ensures .1) (sym (at-reaches-all .reaches-all .ensures) ∙ c .if1 .left) refl
+    again-kept (at-loop .loop .inv) (at-read-at .read-at .ensures .0) (at-read-at .read-at .ensures .1) (at-item .item .given .1) _ (at-carry-out .carry-out .result) (at-slot .slot .ensures .0) (at-carry-out .carry-out .ensures) (at-counted .counted .ensures) (at-put-answer-if .put-answer-if .ensures .0) (at-put-answer-if .put-answer-if .ensures .1) (sym (at-reaches-all .reaches-all .ensures) ∙ c .if1 .left) refl
 
 enum-known-item-2 : tie.Need-enum-known-item-2 Inv-loop μ-loop
 enum-known-item-2 c = search needs
@@ -166,7 +159,7 @@ returns c =
     let at-item2 = at-over .before .before .before in
     let at-read-at = at-item2 .before .before in
     let at-loop = at-read-at .before in
-    given-back (c .changed .ensures) (over (at-loop .loop .inv) (refusal-small (at-loop .loop .inv) (at-read-at .read-at .ensures) (at-item2 .item2 .given .1)) (at-refusal (at-loop .loop .inv) (at-read-at .read-at .ensures) (at-item2 .item2 .given .1)) refl (at-over .over .ensures .0) (at-over .over .ensures .1))
+    given-back (c .changed .ensures) (over (at-loop .loop .inv) (refusal-small (at-loop .loop .inv) (at-read-at .read-at .ensures .0) (at-item2 .item2 .given .1)) (at-refusal (at-loop .loop .inv) (at-read-at .read-at .ensures .0) (at-item2 .item2 .given .1)) refl (at-over .over .ensures .0) (at-over .over .ensures .1))
 
 enum-told : tie.Need-enum-told Inv-loop μ-loop
 enum-told c = search needs
@@ -208,7 +201,7 @@ returns-2 c =
     let at-enum-told = at-over2 .before .before in
     let at-read-at = at-enum-told .before .before in
     let at-loop = at-read-at .before in
-    given-back (c .changed2 .ensures) (over (at-loop .loop .inv) (omega arith) (at-end (at-loop .loop .inv) (at-read-at .read-at .ensures) (at-enum-told .enum-told .given .1)) refl (at-over2 .over2 .ensures .0) (at-over2 .over2 .ensures .1))
+    given-back (c .changed2 .ensures) (over (at-loop .loop .inv) (omega arith) (at-end (at-loop .loop .inv) (at-read-at .read-at .ensures .0) (at-enum-told .enum-told .given .1)) refl (at-over2 .over2 .ensures .0) (at-over2 .over2 .ensures .1))
 
 pub run-spec : {M : Type 1} → statement M
 run-spec =
@@ -227,7 +220,6 @@ run-spec =
     carry-out-requires
     counted-requires
     put-answer-if-requires
-    add-at
     mul-rows
     array-set-from-rows
     reaches-all-requires
