@@ -65,7 +65,7 @@ module _ (n : ℕ) (m : Memory) (r : Recovery) (ts : List Tx) (ks : List Tale) (
     where
       go : recordAt ts t .phase ≡ Fresh → Role n m r ts ks (last past) t
           → Inv n m r (set ts t (tx (recordAt ts t .loc) B1)) (set ks t begins) (last past)
-      go e (free f) = moved n m r ts ks past t ht i inv (m .glb) _ _ (f .put (recordAt ts t .loc) B1 begins (refl, refl, refl, refl))
+      go e (free f) = moved n m r ts ks past t ht i inv (m .glb) _ _ (f .put (recordAt ts t .loc) B1 begins (refl, refl, refl))
       go e (owner odd lock own others) =
           absurd (subst (λ p. Owner n m (last past) (recordAt ts t .loc) p (taleAt ks t)) e own)
       go e (ender c odd end others) =

@@ -204,7 +204,7 @@ crash-pays n w inv = go (inv .mode)
     go (quiet i e ev all) = omega (arith, e)
     go (writing o ho i e own others) =
         let z = live-at (w .past .tales) o (rw (inv .shape .tales-long) ho) (own .0 .0) in
-        let y = own .0 .3 in
+        let y = own .0 .2 in
         omega arith
     go (sealed o ho i e ev end others) = omega (arith, e)
     go (healing i h all) = let z = left-near n (w .store .mem) (last (w .past)) (w .store .rec) h in omega arith

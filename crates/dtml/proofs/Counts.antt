@@ -46,7 +46,7 @@ one-live (k ∷ ks) (suc o) ho h =
     omega arith
 
 over-share : (k : Tale) → Over k → share k ≡ 0
-over-share k h = rw (h .0)
+over-share k h = rw h
 
 plain-share : (k : Tale) → Plain k → share k ≡ 0
 plain-share k h = rw (h .0, h .2)
@@ -108,7 +108,7 @@ entered-words n w inv = go (inv .mode)
     go (writing o ho i ev own others) =
         rw i
         (one-live ks o (rw long ho) (λ t ht d. free t (others t (rw long at ht) d))
-        ∙ rw (own .0 .0) (own .0 .3))
+        ∙ rw (own .0 .0) (own .0 .2))
     go (sealed o ho i e ev end others) =
         rw (i, e)
         (one-live ks o (rw long ho) (λ t ht d. free t (others t (rw long at ht) d)) ∙ ender-share (w .store .mem .glb) (last (w .past)) (recordAt (w .store .txs) o .loc) (recordAt (w .store .txs) o .phase) (taleAt ks o) end)

@@ -21,9 +21,9 @@ use Rattle.dtml.specs.Asked.{begin, read, write, commit, step, flush, cr
 use Rattle.dtml.specs.Lines.{lineAt, recoveryLine, even}
 use Rattle.dtml.specs.Checks.{checks, unfit, notIdle}
 use Rattle.dtml.specs.Calls.{ask, upTo, system, act, call, refused}
-use Rattle.dtml.specs.History.{over, sees, Tale, last, laterAfter, taleAt, isE2, noted, World, tell, dawn, runs}
-use Rattle.dtml.specs.Demands.{Size, after, number, value, CommittedMemories, Durable, BothSides, WholeWhenHealed, WholeWhenIdle, NeverIdle, CutBeforeE2, CutAfterE2, Reads, RecoveryCost, EnteredOnce, NoCrash, crashed, logged, ExactCost, linesLeft, Allowance, NothingUnfit}
-use Rattle.dtml.proofs.Invariant.{Free, Owner, Ender, Mode, quiet, writing, sealed, healing}
+use Rattle.dtml.specs.History.{over, sees, Tale, liveWords, last, laterAfter, taleAt, isE2, noted, World, tell, dawn, runs}
+use Rattle.dtml.specs.Demands.{Size, after, number, value, CommittedMemories, Durable, BothSides, WholeWhenHealed, WholeWhenIdle, WordsInLog, NeverIdle, CutBeforeE2, CutAfterE2, Reads, RecoveryCost, EnteredOnce, NoCrash, crashed, logged, ExactCost, linesLeft, Allowance, NothingUnfit}
+use Rattle.dtml.proofs.Invariant.{Free, Owner, Ender}
 use Rattle.dtml.proofs.Words.{true-or-false, true-not-false, pick-case, is-idle, idle-is, busy-is, none-marked, sees-agree}
 use Rattle.dtml.proofs.Roles.{Role, free, owner, ender, role}
 use Rattle.dtml.proofs.Worlds.{Passes, call-cases, line-small, acted, tell-act, tell-keeps, tell-inv, InvW, dawn-inv}
@@ -32,6 +32,7 @@ use Rattle.dtml.proofs.Low.{LowW, tell-low, glb-low}
 use Rattle.dtml.proofs.Fit.{line-number}
 use Rattle.dtml.proofs.Fitness.{never-unfit, fine, fine-after, not-nine}
 use Rattle.dtml.proofs.SystemCalls.{heals}
+use Rattle.dtml.proofs.Counts.{entered-words}
 use Rattle.dtml.proofs.Cost.{leftIn, idle-left, inv-left, up-to-run, sum, runs-sum, runs-paid, recovers-upTo, many-lines}
 
 -- ---- 2. Committed memories
@@ -91,29 +92,23 @@ unlogged n w inv c = (
       (λ x hx. rw (none-marked (w .store .mem .marks) c x) at (inv .durable x (rw (inv .shape .pers-long) at hx))),
 )
 
-idle-whole : (n : ℕ) (w : World) → InvW n w → notIdle (w .store .rec) ≡ false → ((t : ℕ) → t < 64 → taleAt (w .past .tales) t .writing ≡ false)
-    → BothSides (w .store .mem) (last (w .past))
-idle-whole n w inv i none = go (inv .mode)
-  where
-    go : Mode n (w .store .mem) (w .store .rec) (w .store .txs) (w .past .tales) (last (w .past)) → BothSides (w .store .mem) (last (w .past))
-    go (quiet _ c e all) = unlogged n w inv c
-    go (writing o ho _ e own others) = absurd (true-not-false (own .0 .1) (none o ho))
-    go (sealed o ho _ c e end others) = unlogged n w inv c
-    go (healing a h all) = absurd (true-not-false a i)
+idle-whole : (n : ℕ) (w : World) → InvW n w → notIdle (w .store .rec) ≡ false → liveWords (w .past .tales) ≡ 0 → BothSides (w .store .mem) (last (w .past))
+idle-whole n w inv i none = unlogged n w inv (sym (rw i at (entered-words n w inv)) ∙ none)
 
 pub whole-when-idle : WholeWhenIdle
 whole-when-idle n cs z i none = idle-whole n (after n cs) (fine-after n cs (z .0) (z .1) .0) (is-idle _ i) none
 
+pub words-in-log : WordsInLog
+words-in-log n cs z =
+    let e = entered-words n (after n cs) (fine-after n cs (z .0) (z .1) .0) in ((λ i. rw (is-idle _ i) at e), (λ f. rw (busy-is _ f) at e))
+
 -- a world in which some call answers 6 is one that recovery heals
 module _ (n : ℕ) (w : World) (inv : InvW n w) where
-  over-tales : notIdle (w .store .rec) ≡ true → (t : ℕ) → t < 64 → taleAt (w .past .tales) t .writing ≡ false
-  over-tales a t ht = heals n (w .store .txs) (w .past .tales) (last (w .past)) (w .store .mem) (w .store .rec) a inv .1 t ht .1 .1
-
   -- a call that finds recovery not idle and leaves it idle, with the tales as they were
   healed-whole : (v : World) → InvW n v → notIdle (w .store .rec) ≡ true → v .past .tales ≡ w .past .tales → last (v .past) ≡ last (w .past)
       → notIdle (v .store .rec) ≡ false → BothSides (v .store .mem) (last (w .past))
   healed-whole v inv′ a same kept i =
-      subst (BothSides (v .store .mem)) kept (idle-whole n v inv′ i (λ t ht. ap (λ ks. taleAt ks t .writing) same ∙ over-tales a t ht))
+      subst (BothSides (v .store .mem)) kept (idle-whole n v inv′ i (ap liveWords same ∙ (rw a at (entered-words n w inv))))
 
   -- lines up to an allowance answer 6 only where none is left
   none-left : (b : ℕ) → notIdle (w .store .rec) ≡ true → InvW n (acted w (sys (recoverUpTo b)))
@@ -282,7 +277,7 @@ read-right n w t v inv ht i e q = go (role n m r ts ks l t ht (inv .shape) (inv 
         (h .2 .0, h .2 .1, h .2 .3 q ∙ sym (h .1 .2 q (h .2 .0) (h .2 .2)) ∙ sym (ap (λ xs. sees xs (k .start) (h .2 .0)) (h .0 .1)))
     go (owner odd lock own others) =
         let h : Owner n m l loc (R2 v) k = subst (λ p. Owner n m l loc p k) e own in
-        (h .2 .0, h .2 .1, h .2 .3 ∙ sym (sees-agree n (k .wrote) (k .start) l (lock .2) (h .2 .0) (h .2 .2)))
+        (h .2 .0, h .2 .1, h .2 .3 ∙ sym (sees-agree n (k .wrote) (k .start) l (lock .1) (h .2 .0) (h .2 .2)))
     go (ender c odd end others) = absurd (subst (λ p. Ender (m .glb) l loc p k) e end)
 
 -- a recovery line, and lines up to an allowance, answer 0 or 6

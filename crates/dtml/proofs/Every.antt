@@ -7,7 +7,7 @@ use mathlib.Core.Path.{_≡_, refl, sym, ap, subst, _∙_}
 use mathlib.Core.Bool.{Bool, true, false}
 use mathlib.Core.Logic.{_⊎_, inl, inr}
 use mathlib.Core.List.{List, [], _∷_}
-use lib.ListN.{length, set, length-map, List·getD-map}
+use lib.ListN.{length, set, replicate, length-map, List·getD-map}
 use lib.Seq.{ext-getD}
 use lib.Dec.{leb}
 use Rattle.bits.specs.Marks.{pick, countOf}
@@ -25,8 +25,9 @@ use Rattle.dtml.specs.Checks.{checks, unfit, unfitMemory, unfitRecovery,
 use Rattle.dtml.specs.Calls.{ask, upTo, system, act, call, refused, makeFresh}
 use Rattle.dtml.specs.Figure1.{RecoveryLine, c1-some, c1-none, c2, c3, c4, c5, c6}
 use Rattle.dtml.specs.Rules as rule
-use Rattle.dtml.specs.Rules.{by-read, by-write, by-flush, Condition, order, FirstOf, NoneOf, FirstLine, Over, Cut, over, cut-off, RecoveryLines, Does, invokes, steps, flushes, crashes, recovers, spends, finishes, MadeFresh, made}
-use Rattle.dtml.specs.Demands.{EveryCall}
+use Rattle.dtml.specs.Rules.{by-read, by-write, by-flush, Condition, order, FirstOf, NoneOf, FirstLine, Over, Cut, over, cut-off, RecoveryLines, Does, invokes, steps, flushes, crashes, recovers, spends, finishes, IsFresh, MadeFresh, made}
+use Rattle.dtml.specs.History.{dawn, runs}
+use Rattle.dtml.specs.Demands.{after, EveryCall}
 use Rattle.dtml.proofs.Words.{true-or-false, true-not-false, is-idle, idle-is, busy-is}
 use Rattle.dtml.proofs.Fit.{none, memory-fits, keeps, line-number, up-to-more, up-to-idle}
 use Rattle.dtml.proofs.Worlds.{Passes, act-small}
@@ -338,6 +339,25 @@ module _ (s : Store) where
 
 -- ---- making fresh
 
+fresh-is : (n : ℕ) → IsFresh n (fresh n)
+unfolding fresh
+fresh-is n = record { vol = refl; pers = refl; old = refl; marks = refl; count = refl; records = refl; recovery = refl }
+
+only-fresh : (n : ℕ) (s : Store) → IsFresh n s → s ≡ fresh n
+unfolding fresh
+only-fresh n s f =
+    ap (λ x. store (memory x (s .mem .pers) (s .mem .old) (s .mem .marks) (s .mem .glb)) (s .rec) (s .txs)) (f .vol)
+    ∙ ap (λ x. store (memory (replicate n 0) x (s .mem .old) (s .mem .marks) (s .mem .glb)) (s .rec) (s .txs)) (f .pers)
+    ∙ ap (λ x. store (memory (replicate n 0) (replicate n 0) x (s .mem .marks) (s .mem .glb)) (s .rec) (s .txs)) (f .old)
+    ∙ ap (λ x. store (memory (replicate n 0) (replicate n 0) (replicate n 0) x (s .mem .glb)) (s .rec) (s .txs)) (f .marks)
+    ∙ ap (λ x. store (memory (replicate n 0) (replicate n 0) (replicate n 0) (replicate 4 0) x) (s .rec) (s .txs)) (f .count)
+    ∙ ap (λ x. store (memory (replicate n 0) (replicate n 0) (replicate n 0) (replicate 4 0) 0) x (s .txs)) (f .recovery)
+    ∙ ap (λ x. store (memory (replicate n 0) (replicate n 0) (replicate n 0) (replicate 4 0) 0) Idle x) (f .records)
+
+starts : (n : ℕ) → IsFresh n (after n [] .store)
+unfolding runs dawn
+starts n = fresh-is n
+
 made-fresh : (s : Store) → MadeFresh s (makeFresh s) × ((o : Outcome) → MadeFresh s o → o ≡ makeFresh s)
 unfolding makeFresh
 made-fresh s = (by-rule (lengthTests s) refl, nothing-else)
@@ -347,14 +367,14 @@ made-fresh s = (by-rule (lengthTests s) refl, nothing-else)
 
     by-rule : (d : Bool) → lengthTests s ≡ d → MadeFresh s (makes (lengthTests s))
     by-rule true e = rule.refused (wrong-length s .holds e) (ap makes e)
-    by-rule false e = made (wrong-length s .fails e) (ap makes e)
+    by-rule false e = subst (MadeFresh s) (sym (ap makes e)) (made (wrong-length s .fails e) refl (fresh-is (size (s .mem))))
 
     nothing-else : (o : Outcome) → MadeFresh s o → o ≡ makes (lengthTests s)
-    nothing-else o (made f q) = go (lengthTests s) refl
+    nothing-else o (made f a q) = go (lengthTests s) refl
       where
         go : (d : Bool) → lengthTests s ≡ d → o ≡ makes (lengthTests s)
         go true e = absurd (f (wrong-length s .holds e))
-        go false e = q ∙ sym (ap makes e)
+        go false e = ap (λ x. outcome x (o .store)) a ∙ ap (outcome (says 0 0)) (only-fresh (size (s .mem)) (o .store) q) ∙ sym (ap makes e)
     nothing-else o (rule.refused w q) = go (lengthTests s) refl
       where
         go : (d : Bool) → lengthTests s ≡ d → o ≡ makes (lengthTests s)
@@ -364,7 +384,7 @@ made-fresh s = (by-rule (lengthTests s) refl, nothing-else)
 -- ---- every call
 
 pub every-call : EveryCall
-every-call = record { either = λ s c. cases s c (found s c); refused = λ s c k. (back s c k (found s c), λ f. to s c k f (found s c)); taken = taken; fresh = made-fresh }
+every-call = record { either = λ s c. cases s c (found s c); refused = λ s c k. (back s c k (found s c), λ f. to s c k f (found s c)); taken = taken; fresh = made-fresh; start = starts }
   where
     cases : (s : Store) (c : Call) → Cases s c → ((k : ℕ) × FirstOf (order c) (Condition s c) k) ⊎ NoneOf (order c) (Condition s c)
     cases s c (inl r) = inl (r .0, r .1)

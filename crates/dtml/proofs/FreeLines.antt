@@ -18,7 +18,7 @@ use Rattle.dtml.specs.Store.{Memory, recordAt, tx}
 use Rattle.dtml.specs.Asked.{write, Did}
 use Rattle.dtml.specs.Lines.{lineAt, even, stage, withGlb, word}
 use Rattle.dtml.specs.Checks.{notIdle, isAtLine}
-use Rattle.dtml.specs.History.{Tale, Past, told, last, lastOf, laterAfter, taleAt, sees, starts, closes, locks}
+use Rattle.dtml.specs.History.{Tale, Past, told, last, lastOf, laterAfter, taleAt, sees, starts, closes}
 use Rattle.dtml.specs.Demands.{OutOf}
 use Rattle.dtml.proofs.Invariant.{Agree, Free, Plain, Lock, Owner, Each, EachBut, Mode, writing, Shape, Inv}
 use Rattle.dtml.proofs.Words.{true-not-false, pick-case, even-true, is-odd, odd-other, none-marked}
@@ -104,16 +104,16 @@ module _ (n : ℕ) (m : Memory) (r : Recovery) (ts : List Tx) (ks : List Tale) (
   -- W2 takes the lock
   locked : (loc w v : ℕ) (k : Tale) → loc ≡ m .glb → even loc ≡ true → countOf (m .marks) ≡ 0 → Each ts ks (Free n (m .glb) (last past))
       → Plain k → Agree n (k .start) (last past) → k .asked ≡ write w v → w < n
-      → Inv n (withGlb m (m .glb + 1)) r (set ts t (tx loc (W3 w v))) (set ks t (locks k)) (last past)
+      → Inv n (withGlb m (m .glb + 1)) r (set ts t (tx loc (W3 w v))) (set ks t k) (last past)
   unfolding sees
   locked loc w v k e ev c all pl ag ask hw =
       let o : m .glb % 2 ≡ 0 = rw e at (even-true loc ev) in
-      moved (m .glb + 1) (tx loc (W3 w v)) (locks k)
+      moved (m .glb + 1) (tx loc (W3 w v)) k
       (writing t ht i (is-odd (m .glb + 1) (omega arith))
-      (set-here ts ks t (tx loc (W3 w v)) (locks k)
+      (set-here ts ks t (tx loc (W3 w v)) k
       (λ a b d. Lock n (withGlb m (m .glb + 1)) (last past) d × Owner n (withGlb m (m .glb + 1)) (last past) a b d)
       in-txs in-tales (
-        (pl .0, refl, ag, ap length (pl .2) ∙ sym c, λ x u. subst (λ xs. OutOf xs x) (sym (pl .2)) tt),
+        (pl .0, ag, ap length (pl .2) ∙ sym c, λ x u. subst (λ xs. OutOf xs x) (sym (pl .2)) tt),
         (
           ap (λ (x : ℕ). x + 1) e,
           (λ x hx. (unlogged-vol c x hx ∙ sym (ap (λ xs. sees xs (last past) x) (pl .1)), unlogged-pers c x hx ∙ sym (unlogged-vol c x hx))),
@@ -121,7 +121,7 @@ module _ (n : ℕ) (m : Memory) (r : Recovery) (ts : List Tx) (ks : List Tale) (
           hw,
         ),
       ))
-      (set-own ts ks t (tx loc (W3 w v)) (locks k) (Free n (m .glb + 1) (last past))
+      (set-own ts ks t (tx loc (W3 w v)) k (Free n (m .glb + 1) (last past))
       (others-move n (m .glb) (m .glb + 1) (last past) (last past) ts ks t (omega arith) (λ a ea _. odd-other a (m .glb + 1) (omega arith) ea) (λ u hu _. all u hu))))
 
   -- a line of a free transaction
@@ -145,7 +145,7 @@ module _ (n : ℕ) (m : Memory) (r : Recovery) (ts : List Tx) (ks : List Tale) (
   free-line loc (R2 v) k s h put nobody =
       pick-case (AfterLine n r ts ks past t (R2 v) k) (eqb (m .glb) loc)
       (λ e. moved _ _ _ (put loc Ready k (h .0, h .1)))
-      (λ e. moved _ _ _ (put loc Aborted (closes k) (refl, refl)))
+      (λ e. moved _ _ _ (put loc Aborted (closes k) refl))
   free-line loc (W1 w v) k s h put nobody =
       pick-case (AfterLine n r ts ks past t (W1 w v) k) (even loc)
       (λ e. moved _ _ _ (put loc (W2 w v) k h))
@@ -155,7 +155,7 @@ module _ (n : ℕ) (m : Memory) (r : Recovery) (ts : List Tx) (ks : List Tale) (
       (λ e. let q : loc ≡ m .glb = sym (eqb-true (m .glb) loc e) in
       let none = nobody (rw q at (h .1 .0)) in
       locked loc w v k q (h .1 .0) (none .0) (none .1) (h .0) (h .1 .2 q) (h .2) (h .3))
-      (λ e. moved _ _ _ (put loc Aborted (closes k) (refl, refl)))
+      (λ e. moved _ _ _ (put loc Aborted (closes k) refl))
   free-line loc (W3 w v) k s h put nobody = absurd h
   free-line loc (W4 w v) k s h put nobody = absurd h
   free-line loc (W5 w v) k s h put nobody = absurd h
@@ -163,7 +163,7 @@ module _ (n : ℕ) (m : Memory) (r : Recovery) (ts : List Tx) (ks : List Tale) (
   free-line loc (W7 w) k s h put nobody = absurd h
   free-line loc E1 k s h put nobody =
       pick-case (AfterLine n r ts ks past t E1 k) (even loc)
-      (λ e. moved _ _ _ (put loc Committed (closes k) (refl, refl)))
+      (λ e. moved _ _ _ (put loc Committed (closes k) refl))
       (λ e. absurd (true-not-false (h .1 .0) e))
   free-line loc E2 k s h put nobody = absurd h
   free-line loc E3 k s h put nobody = absurd h

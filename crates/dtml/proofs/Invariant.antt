@@ -25,10 +25,10 @@ Agree n a b = (w : ℕ) → w < n → getD a w 0 ≡ getD b w 0
 -- ---- a transaction that holds no lock
 
 abbrev pub Over : Tale → Type 0
-Over k = (k .live ≡ false) × (k .writing ≡ false)
+Over k = k .live ≡ false
 
 abbrev pub Plain : Tale → Type 0
-Plain k = (k .live ≡ true) × (k .wrote ≡ []) × (k .entered ≡ []) × (k .writing ≡ false)
+Plain k = (k .live ≡ true) × (k .wrote ≡ []) × (k .entered ≡ [])
 
 -- past its B2: if the count is still its loc, the committed memory is still that of its B1
 abbrev pub Current : ℕ → ℕ → List ℕ → ℕ → Tale → Type 0
@@ -67,7 +67,7 @@ pub record Dirty (n : ℕ) (m : Memory) (l : List ℕ) (k : Tale) (x v : ℕ) : 
 
 -- a word that it entered is in the log
 abbrev pub Lock : ℕ → Memory → List ℕ → Tale → Type 0
-Lock n m l k = (k .live ≡ true) × (k .writing ≡ true) × Agree n (k .start) l × (length (k .entered) ≡ countOf (m .marks))
+Lock n m l k = (k .live ≡ true) × Agree n (k .start) l × (length (k .entered) ≡ countOf (m .marks))
     × ((w : ℕ) → isMarked (m .marks) w ≡ false → OutOf (k .entered) w)
 
 abbrev pub Owner : ℕ → Memory → List ℕ → ℕ → Phase → Tale → Type 0

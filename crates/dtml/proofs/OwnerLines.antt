@@ -68,14 +68,14 @@ module _ (n : ℕ) (m : Memory) (r : Recovery) (ts : List Tx) (ks : List Tale) (
     marks-in = λ x hx. laws .mark-other (m .marks) w x (λ e. let z = own .3 in omega arith) ∙ inv .marks-in x hx;
     mode =
         goes-on (m .vol) (m .pers) (set (m .old) w (word m w)) (markOf (m .marks) w) loc (W6 w v) (enters k)
-        (lock .0, lock .1, lock .2, more, λ x u. (new x u, lock .4 x (unmarked-before x u)))
+        (lock .0, lock .1, more, λ x u. (new x u, lock .3 x (unmarked-before x u)))
         (own .0, own .1, own .2, own .3, laws .mark-same (m .marks) w (in-marks w (own .3)));
   }
     where
       more : length (enters k .entered) ≡ countOf (markOf (m .marks) w)
       more =
           let a = laws .count-mark (m .marks) w (in-marks w (own .3)) (own .4) in
-          let b = lock .3 in
+          let b = lock .2 in
           omega arith
 
       new : (x : ℕ) → isMarked (markOf (m .marks) w) x ≡ false → x ≡ askedWrite (k .asked) .word → ⊥
@@ -187,7 +187,7 @@ module _ (n : ℕ) (m : Memory) (r : Recovery) (ts : List Tx) (ks : List Tale) (
     mode =
         sealed t ht i (laws .count-clear (m .marks)) odd
         (set-here ts ks t (tx loc E3) (closes k) (Ender (m .glb) (over (last past) (k .wrote)))
-        (in-txs n m r ts ks past t ht i inv) (in-tales n m r ts ks past t ht i inv) (own .0, (refl, refl)))
+        (in-txs n m r ts ks past t ht i inv) (in-tales n m r ts ks past t ht i inv) (own .0, refl))
         (set-own ts ks t (tx loc E3) (closes k) (Free n (m .glb) (over (last past) (k .wrote)))
         (others-move n (m .glb) (m .glb) (last past) (over (last past) (k .wrote)) ts ks t (le-refl (m .glb))
         (λ a ea _. odd-other a (m .glb) (even-false (m .glb) odd) ea) others));
@@ -240,7 +240,7 @@ module _ (n : ℕ) (m : Memory) (r : Recovery) (ts : List Tx) (ks : List Tale) (
       moved n m r ts ks past t ht i inv (loc + 1) (tx loc Committed) (closes k)
       (quiet i c (is-even (loc + 1) (omega arith))
       (set-each ts ks t (tx loc Committed) (closes k) (Free n (loc + 1) (last past))
-      (in-txs n m r ts ks past t ht i inv) (in-tales n m r ts ks past t ht i inv) (refl, refl)
+      (in-txs n m r ts ks past t ht i inv) (in-tales n m r ts ks past t ht i inv) refl
       (others-move n (m .glb) (loc + 1) (last past) (last past) ts ks t (omega arith) (λ a _ la qa. omega arith) others)))
 
   -- a line of the transaction that is sealed

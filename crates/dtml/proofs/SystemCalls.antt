@@ -89,7 +89,7 @@ module _ (n : ℕ) (m : Memory) (l : List ℕ) (w : ℕ) (long : length (m .pers
 -- ---- after a crash or recovery the records have no line
 
 still-crashed : (p : Phase) (k : Tale) → Still (crashPhase p) (closes k)
-still-crashed p k = (pick-case (λ q. isLive (stage q) ≡ false) (isLive (stage p)) {x = Aborted} {y = p} (λ _. refl) (λ e. e), (refl, refl))
+still-crashed p k = (pick-case (λ q. isLive (stage q) ≡ false) (isLive (stage p)) {x = Aborted} {y = p} (λ _. refl) (λ e. e), refl)
 
 pub still-free : (n g : ℕ) (l : List ℕ) (loc : ℕ) (p : Phase) (k : Tale) → Still p k → Free n g l loc p k
 still-free n g l loc Fresh k h = h .1

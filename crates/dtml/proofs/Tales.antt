@@ -55,12 +55,12 @@ told-once l B2 a k d new = d
 told-once l (R1 w) a k d new = d
 told-once l (R2 v) a k d new = ends-once a k d
 told-once l (W1 w v) a k d new = d
-told-once l (W2 w v) a k d new = pick-case (λ (g : Tale). Different (g .entered)) (eqb (a .number) 5) (λ _. d) (λ _. d)
+told-once l (W2 w v) a k d new = ends-once a k d
 told-once l (W3 w v) a k d new = d
 told-once l (W4 w v) a k d new = d
 told-once l (W5 w v) a k d new = (new w v refl, d)
 told-once l (W6 w v) a k d new = d
-told-once l (W7 w) a k d new = d
+told-once l (W7 w) a k d new = pick-case (λ (g : Tale). Different (g .entered)) (eqb (a .number) 3) (λ _. d) (λ _. d)
 told-once l E1 a k d new = ends-once a k d
 told-once l E2 a k d new = d
 told-once l E3 a k d new = d
@@ -157,7 +157,7 @@ module _ (n : ℕ) (w : World) (inv : InvW n w) (h : TalesW w) where
   new-word t ht (owner odd lock own others) x v e =
       let o : Owner n (w .store .mem) (last (w .past)) (recordAt (w .store .txs) t .loc) (W5 x v) (taleAt (w .past .tales) t) =
       subst (λ p. Owner n (w .store .mem) (last (w .past)) (recordAt (w .store .txs) t .loc) p (taleAt (w .past .tales) t)) e own in
-      subst (λ a. OutOf (taleAt (w .past .tales) t .entered) (askedWrite a .word)) (sym (o .2)) (lock .4 x (o .4))
+      subst (λ a. OutOf (taleAt (w .past .tales) t .entered) (askedWrite a .word)) (sym (o .2)) (lock .3 x (o .4))
   new-word t ht (ender c odd end others) x v e =
       absurd (subst (λ p. Ender (w .store .mem .glb) (last (w .past)) (recordAt (w .store .txs) t .loc) p (taleAt (w .past .tales) t)) e end)
 

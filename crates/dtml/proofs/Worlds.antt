@@ -266,7 +266,7 @@ dawn-inv n some few = record {
   marks-in = λ x hx. unmarked x;
   mode =
       quiet refl refl refl
-      (λ t ht. rw (getD-replicate 64 t (tx 0 Fresh) (tx 0 Fresh) ht, getD-replicate 64 t blank blank ht) (refl, refl));
+      (λ t ht. rw (getD-replicate 64 t (tx 0 Fresh) (tx 0 Fresh) ht, getD-replicate 64 t blank blank ht) refl);
 }
   where
     unmarked : (x : ℕ) → isMarked (replicate 4 0) x ≡ false

@@ -1,4 +1,4 @@
--- Demands 2 and 3 of the customer's letter, each as one statement, over every schedule of calls from a fresh store of every size.
+-- The demands of the customer's letter, sentence by sentence: of every call on every store, and over every schedule of calls from a fresh store of every size.
 use Prim.Native.Nat.{ℕ, _+_, _-_, _*_, _≤_, _<_, min}
 use mathlib.Core.Path.{_≡_}
 use mathlib.Core.Bool.{false}
@@ -13,8 +13,8 @@ use Rattle.dtml.specs.Table.{says}
 use Rattle.dtml.specs.Store.{Memory, Store, recordAt}
 use Rattle.dtml.specs.Asked.{read, step, crash, recover, recoverUpTo, Call, on, sys, Outcome, outcome}
 use Rattle.dtml.specs.Calls.{call, makeFresh}
-use Rattle.dtml.specs.Rules.{Condition, order, FirstOf, NoneOf, Does, MadeFresh}
-use Rattle.dtml.specs.History.{over, sees, last, lastOf, taleAt, World, tell, dawn, runs}
+use Rattle.dtml.specs.Rules.{Condition, order, FirstOf, NoneOf, Does, IsFresh, MadeFresh}
+use Rattle.dtml.specs.History.{over, sees, liveWords, last, lastOf, taleAt, World, tell, dawn, runs}
 
 -- a schedule from a fresh store of n words, n from 1 to 256, and the world after it
 abbrev pub Size : ℕ → Type 0
@@ -30,6 +30,10 @@ number w c = call (w .store) c .reply .number
 abbrev pub value : World → Call → ℕ
 value w c = call (w .store) c .reply .value
 
+-- the words in the log
+abbrev pub logged : World → ℕ
+logged w = countOf (w .store .mem .marks)
+
 -- ---- 1. Every call
 
 -- For every call on every store, fit or not:
@@ -40,8 +44,9 @@ pub record EveryCall : Type 0 where
   pub refused : (s : Store) (c : Call) (k : ℕ) → ((9 ≤ k) × (call s c ≡ outcome (says k 0) s)) ↔ FirstOf (order c) (Condition s c) k
   -- where none of them holds, it does what its rule says, a step and a recovery call one line of the published algorithm, and the rule allows nothing else.
   pub taken : (s : Store) (c : Call) → NoneOf (order c) (Condition s c) → Does s c (call s c) × ((o : Outcome) → Does s c o → o ≡ call s c)
-  -- Making fresh likewise.
+  -- Making fresh likewise; and every schedule starts from what it leaves.
   pub fresh : (s : Store) → MadeFresh s (makeFresh s) × ((o : Outcome) → MadeFresh s o → o ≡ makeFresh s)
+  pub start : (n : ℕ) → IsFresh n (after n [] .store)
 
 -- ---- 2. Committed memories
 
@@ -76,11 +81,16 @@ abbrev pub WholeWhenHealed : Type 0
 WholeWhenHealed = (n : ℕ) (cs : List Call) (c : Call) → Size n → number (after n cs) c ≡ 6
     → BothSides (tell (after n cs) c .store .mem) (last (after n cs .past))
 
--- and at every moment at which recovery is idle and no writer stands between its W2 and its E2.
+-- and at every moment at which recovery is idle and no live transaction has entered a word in the log.
 abbrev pub WholeWhenIdle : Type 0
-WholeWhenIdle = (n : ℕ) (cs : List Call) → Size n → after n cs .store .rec ≡ Idle
-    → ((t : ℕ) → t < 64 → taleAt (after n cs .past .tales) t .writing ≡ false)
+WholeWhenIdle = (n : ℕ) (cs : List Call) → Size n → after n cs .store .rec ≡ Idle → liveWords (after n cs .past .tales) ≡ 0
     → BothSides (after n cs .store .mem) (last (after n cs .past))
+
+-- While recovery is idle, the words in the log are those that live transactions have entered, so none from a writer's E2 on; in recovery none is live.
+abbrev pub WordsInLog : Type 0
+WordsInLog = (n : ℕ) (cs : List Call) → Size n
+    → (after n cs .store .rec ≡ Idle → liveWords (after n cs .past .tales) ≡ logged (after n cs))
+    × ((after n cs .store .rec ≡ Idle → ⊥) → liveWords (after n cs .past .tales) ≡ 0)
 
 -- recovery is not idle at any moment of ds
 abbrev pub NeverIdle : World → List Call → Type 0
@@ -132,12 +142,9 @@ abbrev pub NoCrash : List Call → Type 0
 NoCrash [] = Unit {0}
 NoCrash (c ∷ cs) = (c ≡ sys crash → ⊥) × NoCrash cs
 
--- The world in which a crash has just come, the words that it left in the log, and the recovery lines carried out since.
+-- the world in which a crash has just come
 abbrev pub crashed : ℕ → List Call → World
 crashed n cs = tell (after n cs) (sys crash)
-
-abbrev pub logged : World → ℕ
-logged w = countOf (w .store .mem .marks)
 
 -- If a crash leaves k words in the log and no other crash comes before it is done, exactly 5k + 2 recovery lines finish the work,
 -- with anything else the schedule does in between.

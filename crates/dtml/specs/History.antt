@@ -1,5 +1,5 @@
 -- What is told of a schedule, from its calls, its answers and the lines done: the committed memories, each transaction's writes, and the counts.
--- Nothing here looks at the rows, the log or the count.
+-- Nothing here looks at a row of words, the log or the count: of the store only the answers and the line at which a record stands are seen.
 use Prim.Native.Nat.{ℕ, _+_}
 use mathlib.Core.Bool.{Bool, true, false}
 use mathlib.Core.List.{List, [], _∷_, map}
@@ -45,23 +45,18 @@ pub record Tale : Type 0 where
   pub entered : List ℕ
   -- it has begun, and neither ended nor done its E2
   pub live : Bool
-  -- it stands between its W2 and its E2
-  pub writing : Bool
 
 abbrev pub blank : Tale
-blank = record { asked = begin; start = []; wrote = []; entered = []; live = false; writing = false }
+blank = record { asked = begin; start = []; wrote = []; entered = []; live = false }
 
 abbrev pub begins : Tale
-begins = record { asked = begin; start = []; wrote = []; entered = []; live = true; writing = false }
+begins = record { asked = begin; start = []; wrote = []; entered = []; live = true }
 
 abbrev pub asks : Tale → Ask → Tale
-asks g a = record { asked = a; start = g .start; wrote = g .wrote; entered = g .entered; live = g .live; writing = g .writing }
+asks g a = record { asked = a; start = g .start; wrote = g .wrote; entered = g .entered; live = g .live }
 
 abbrev pub starts : Tale → List ℕ → Tale
-starts g m = record { asked = g .asked; start = m; wrote = g .wrote; entered = g .entered; live = g .live; writing = g .writing }
-
-abbrev pub locks : Tale → Tale
-locks g = record { asked = g .asked; start = g .start; wrote = g .wrote; entered = g .entered; live = g .live; writing = true }
+starts g m = record { asked = g .asked; start = m; wrote = g .wrote; entered = g .entered; live = g .live }
 
 -- what was asked for, as a write
 abbrev pub askedWrite : Ask → Write
@@ -72,14 +67,14 @@ askedWrite commit = wrote-as 0 0
 askedWrite step = wrote-as 0 0
 
 abbrev pub enters : Tale → Tale
-enters g = record { asked = g .asked; start = g .start; wrote = g .wrote; entered = askedWrite (g .asked) .word ∷ g .entered; live = g .live; writing = g .writing }
+enters g = record { asked = g .asked; start = g .start; wrote = g .wrote; entered = askedWrite (g .asked) .word ∷ g .entered; live = g .live }
 
 abbrev pub writes : Tale → Tale
-writes g = record { asked = g .asked; start = g .start; wrote = askedWrite (g .asked) ∷ g .wrote; entered = g .entered; live = g .live; writing = g .writing }
+writes g = record { asked = g .asked; start = g .start; wrote = askedWrite (g .asked) ∷ g .wrote; entered = g .entered; live = g .live }
 
 -- ended, past its E2, or cut off by a crash
 abbrev pub closes : Tale → Tale
-closes g = record { asked = g .asked; start = g .start; wrote = g .wrote; entered = g .entered; live = false; writing = false }
+closes g = record { asked = g .asked; start = g .start; wrote = g .wrote; entered = g .entered; live = false }
 
 -- answers 4 and 5 end a transaction
 abbrev pub endsOn : Reply → Tale → Tale
@@ -96,12 +91,12 @@ told last B2 a g = g
 told last (R1 w) a g = g
 told last (R2 v) a g = endsOn a g
 told last (W1 w v) a g = g
-told last (W2 w v) a g = pick (eqb (a .number) 5) (closes g) (locks g)
+told last (W2 w v) a g = endsOn a g
 told last (W3 w v) a g = g
 told last (W4 w v) a g = g
 told last (W5 w v) a g = enters g
 told last (W6 w v) a g = g
-told last (W7 w) a g = writes g
+told last (W7 w) a g = pick (eqb (a .number) 3) (writes g) g
 told last E1 a g = endsOn a g
 told last E2 a g = closes g
 told last E3 a g = closes g

@@ -5,7 +5,7 @@ use mathlib.Core.Path.{_≡_}
 use mathlib.Core.Bool.{Bool, true, false}
 use mathlib.Core.Logic.{_⊎_}
 use mathlib.Core.List.{List, [], _∷_}
-use lib.ListN.{length, getD, set}
+use lib.ListN.{length, getD, set, replicate}
 use lib.Dec.{eqb}
 use Rattle.bits.specs.Marks.{isMarked}
 use Rattle.dtml.specs.declared.Tx.{Tx}
@@ -14,7 +14,7 @@ use Rattle.dtml.specs.declared.Phase.the-variants.{Fresh, Ready, Committ
 use Rattle.dtml.specs.declared.Recovery.{Recovery}
 use Rattle.dtml.specs.declared.Recovery.the-variants.{Idle, C1, C2, C3, C4, C5}
 use Rattle.dtml.specs.Table.{says}
-use Rattle.dtml.specs.Store.{Memory, memory, Store, store, tx, size, recordAt, fresh}
+use Rattle.dtml.specs.Store.{Memory, memory, Store, store, tx, size, recordAt}
 use Rattle.dtml.specs.Asked.{Ask, begin, read, write, commit, step, flush, crash, recover, recoverUpTo, Call, on, sys, standsAt, Did, Healed, Outcome, outcome}
 use Rattle.dtml.specs.Figure1.{Line, RecoveryLine}
 
@@ -75,7 +75,7 @@ IdentifierPast (sys k) = ⊥
 abbrev pub NoLine : Phase → Type 0
 NoLine p = (p ≡ Fresh) ⊎ (p ≡ Ready) ⊎ (p ≡ Committed) ⊎ (p ≡ Aborted)
 
--- a row of the table: at number n it is P, elsewhere what the rows below it say
+-- a row of the table: P where its number is asked for, elsewhere what the rows below it say
 abbrev pub row : Bool → Type 0 → Type 0 → Type 0
 row true P below = P
 row false P below = below
@@ -159,7 +159,17 @@ pub data Does (s : Store) (c : Call) (o : Outcome) : Type 0 where
   finishes : (b k : ℕ) (m : Memory) → c ≡ sys (recoverUpTo b) → k ≤ b → RecoveryLines k (s .mem) (s .rec) m Idle
       → o ≡ outcome (says 6 k) (store m Idle (s .txs)) → Does s c o
 
+-- Fresh: every word, mark, count and loc is 0, every record fresh, recovery idle.
+pub record IsFresh (n : ℕ) (s : Store) : Type 0 where
+  pub vol : s .mem .vol ≡ replicate n 0
+  pub pers : s .mem .pers ≡ replicate n 0
+  pub old : s .mem .old ≡ replicate n 0
+  pub marks : s .mem .marks ≡ replicate 4 0
+  pub count : s .mem .glb ≡ 0
+  pub records : s .txs ≡ replicate 64 (tx 0 Fresh)
+  pub recovery : s .rec ≡ Idle
+
 -- Making a store fresh answers 0, or refuses rows of the wrong length with 9.
 pub data MadeFresh (s : Store) (o : Outcome) : Type 0 where
-  made : (WrongLength s → ⊥) → o ≡ outcome (says 0 0) (fresh (size (s .mem))) → MadeFresh s o
+  made : (WrongLength s → ⊥) → o .reply ≡ says 0 0 → IsFresh (size (s .mem)) (o .store) → MadeFresh s o
   refused : WrongLength s → o ≡ outcome (says 9 0) s → MadeFresh s o
