@@ -41,6 +41,7 @@ use Rattle.dtml.proofs.Tx as R
 use Rattle.dtml.proofs.Tx.Laws as R′
 use Rattle.dtml.proofs.Phase as P
 use Rattle.dtml.proofs.Phase.Laws as P′
+use Rattle.records.proofs.Own.{array-row, row-room}
 
 -- ---- values
 abbrev pub vals : Tx → List Val
@@ -157,26 +158,10 @@ module _ {M : Type 1} (𝓤 : URA M) (H : Heap 𝓤) (A : Atoms 𝓤) (W : Given
 
   -- an array by value, in its local, is a row, and such a row leaves the local's room
   pub array-records : (xs : List Tx) (v : Val) → Is Row xs (v ∷ []) → (l : ℕ) → ent 𝓤 (H .at fullShare array l 0 v) (sem 𝓤 H A (records fullShare xs l 0))
-  unfolding partOf
-  array-records xs v ix l =
-      qed W (‵ (fat fullShare array l 0 v) ∷ []) ∵ use1 W (‵ (cellAt fullShare (Row .mir) (v ∷ []) l 0)) (W .laws .at-raw fullShare array l 0 v) $
-      owned ! Row (Is Row) (array-makes 𝓤 H A W R.the-row (LL.makes R.the-type R′.the-plain 𝓤 H A) 64) xs (v ∷ []) ix $ move ! (1 ∷ 0 ∷ []) $
-      fjoin ! $ fpack ! (List Val) (λ vs. fsep (cellAt fullShare (Row .mir) vs l 0) (Row .own xs vs)) (v ∷ []) $
-      use1 W (‵ (arr-parts (shares R.the-row) 64 .part fullShare xs l 0)) (array-apart 𝓤 H A W R.the-row fullShare tt 64 xs l 0) $
-      fsplit ! $ drop ! $ done !
+  array-records xs v ix l = array-row R.the-row l 0 𝓤 H A W tt (LL.makes R.the-type R′.the-plain 𝓤 H A) 64 xs v ix
 
   pub records-room : (xs : List Tx) → length xs ≡ 64 → (l : ℕ) → ent 𝓤 (sem 𝓤 H A (records fullShare xs l 0)) (H .room array l 0)
-  unfolding partOf
-  records-room xs e l =
-      qed W (‵ (records fullShare xs l 0) ∷ []) ∵ feqI ! ℕ (length xs) 64 e $ fjoin ! $
-      use1 W (‵ (partAt Row fullShare xs l 0)) (array-whole 𝓤 H A W R.the-row fullShare 64 xs l 0) $
-      fpick ! (λ vs. fsplit ! $ move ! (1 ∷ []) $ peeks ! Row (Is Row) (shows 𝓤 H A Row) xs vs (λ ir. drop ! $
-      rewrite ! 0 (λ (us : List Val). ‵ (cellAt fullShare (Row .mir) us l 0)) (array-tells R.the-row vals (LL.tells R.the-type R′.the-laws) 64 xs vs ir) refl $
-      use1 W (raw (H .room array l 0)) (via 𝓤 (H .at fullShare array l 0 all) (W .laws .raw-at fullShare array l 0 all) (W .laws .at-room array l 0 all)) $
-      done !))
-    where
-      all : Val
-      all = arrayVal (map (λ (t : Tx). LL.val R.the-type R′.the-laws t) xs)
+  records-room xs e l = row-room R.the-row l 0 𝓤 H A W vals (LL.tells R.the-type R′.the-laws) 64 xs e
 
 module _ {M : Type 1} {𝓤 : URA M} {H : Heap 𝓤} {A : Atoms 𝓤} {K : Type 0} {W : Given 𝓤 H A} {Γ : List (Item 𝓤)} where
   -- ---- one record of the row that is entry n is read, and stored to
