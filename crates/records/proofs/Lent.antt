@@ -41,6 +41,7 @@ use Rattle.dtml.proofs.Tx as R
 use Rattle.dtml.proofs.Tx.Laws as R′
 use Rattle.dtml.proofs.Phase as P
 use Rattle.dtml.proofs.Phase.Laws as P′
+use Rattle.records.proofs.Own as own
 use Rattle.records.proofs.Own.{array-row, row-room}
 
 -- ---- values
@@ -93,17 +94,14 @@ module _ (b o : ℕ) (γ : GName) where
 
   -- what it owns as `&mut`, where it was lent with ys and is now at zs, and as `&`
   abbrev pub Mut : Lft → List Tx → List Tx → Fml
-  Mut κ ys zs = MutSlice (named 0) κ R.the-row .own (ref zs) (sliceVal (b, o) (length ys) ∷ [])
+  Mut κ ys zs = own.Mut R.the-row (named 0) κ b o γ ys zs
 
   abbrev pub Shr : Lft → List Tx → Fml
   Shr κ ys = ShrSlice (named 0) κ R.the-row .own (ref ys) (sliceVal (b, o) (length ys) ∷ [])
 
-  abbrev Tracked : List Tx → Fml
-  Tracked ys = fsep (fobs γ (codedHoleys R.the-row .code (heres R.the-row ys))) (fauth γ (codedHoleys R.the-row .code (heres R.the-row ys)))
-
   -- what closes the one, and shuts the other
   abbrev pub Closes : Lft → Share → List Tx → Fml
-  Closes κ q ys = fsep (fobor κ q (Held R.the-row (length ys) b o γ)) (Tracked ys)
+  Closes κ q ys = own.Closes R.the-row (named 0) κ b o γ q ys
 
   abbrev pub Shuts : Lft → Share → List Tx → Share → Fml
   Shuts κ q ys q′ = fsep (fobor κ q (arr-parts (shares R.the-row) (length ys) .part q′ ys b o)) (Shr κ ys)
@@ -264,15 +262,11 @@ module _ {M : Type 1} {𝓤 : URA M} {H : Heap 𝓤} {A : Atoms 𝓤} {K : Type 
     -- ---- a row that is lent as `&mut` is opened as the function is entered, and closed at zs
     pub opens : K → Soaks G → (κ : Lft) (q : Share) (b o : ℕ) (γ : GName) (ys : List Tx) {Q : Fml}
         → Step K W (‵ (records fullShare ys b o) ∷ ‵ (Closes b o γ κ q ys) ∷ Γ) G ((‵ (flft κ q) ⊛ ‵ ftrue) ∷ ‵ (fsep (Mut b o γ κ ys ys) Q) ∷ Γ) G
-    opens t z κ q b o γ ys = step (λ s. split t $ move t (2 ∷ []) $ fsplit t $ fsplit t $ drop t $ fsplit t $ move t (0 ∷ 1 ∷ 3 ∷ []) $
-        opens-slice t z R.the-row ys b o $ move t (4 ∷ 5 ∷ []) $ drop t $ drop t $ move t (2 ∷ 3 ∷ []) $ fjoin t $ move t (2 ∷ 0 ∷ []) $ fjoin t $
-        move t (1 ∷ 0 ∷ []) $ s)
+    opens t z κ q b o γ ys = own.opens R.the-row (named 0) κ b o γ t z q ys
 
     pub closes : K → Soaks G → (κ : Lft) (q : Share) (b o : ℕ) (γ : GName) (ys zs : List Tx) → length zs ≡ length ys → Room (length ys)
         → Step K W (‵ (Mut b o γ κ ys zs) ∷ ‵ (flft κ q) ∷ Γ) G (‵ (records fullShare zs b o) ∷ ‵ (Closes b o γ κ q ys) ∷ Γ) G
-    closes t z κ q b o γ ys zs e room = step (λ s. move t (1 ∷ []) $ fsplit t $ move t (1 ∷ []) $ fsplit t $ move t (3 ∷ 2 ∷ []) $
-        closes-slice t z R.the-row ys zs e b o $ fjoin t $ pureI t (at-slice R.the-row (ref b o γ zs) (sliceVal (b, o) (length ys) ∷ [])) (tt, (tt, tt))
-        (ap (λ (m : ℕ). sliceVal (b, o) m ∷ []) (sym e), subst Room (sym e) room) $ fjoin t $ s)
+    closes t z κ q b o γ ys zs e room = own.closes R.the-row (named 0) κ b o γ t z q ys zs e room
 
     -- one that is lent as `&` is looked into, and shut
     pub looks : K → Soaks G → (κ : Lft) (q : Share) (b o : ℕ) (γ : GName) (ys : List Tx) {Q : Fml}
