@@ -14,7 +14,6 @@ use denote.Struct.Laws as LL
 use Rattle.io.specs.Counts.{Counts}
 use Rattle.bits.specs.Marks.{pick}
 use Rattle.dtml.specs.declared.Act.{Act}
-use Rattle.dtml.specs.declared.Answer.{Answer}
 use Rattle.dtml.specs.declared.Phase.the-variants.{Fresh}
 use Rattle.dtml.specs.declared.Tx.{Tx}
 use Rattle.dtml.specs.Table.{Reply, reply}

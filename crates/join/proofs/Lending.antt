@@ -12,7 +12,7 @@ use mir.Val.{Val, vint}
 use base.Logic.{SProp, ent, ex, guard, id⊢}
 use base.Fml.{GName, Fml, ftrue, flft, flent}
 use prog.Wp.{Heap}
-use ghost.Atoms.{Atoms, sem}
+use ghost.Atoms.{Atoms}
 use contract.Monad.{Fun, Fm}
 use contract.Lifetimes.{Lfts}
 use types.Kit.{Given, Item, ‵, raw, _⊛_, some, later, mean, ⋆, _$_, _∵_, !, qed, by, move, keep, drop, use0, use1, use2, use3, split, join, pick, learn, fsplit, fjoin, feqI, feqL, await, updating, now as at-once, check, show, done}
@@ -22,8 +22,8 @@ use denote.RattleType.{owns}
 use denote.Laws.{Is}
 use denote.Memory.{shares}
 use denote.Plain.{uint-vals, uint-tells}
-use denote.Builtin.{u8, u32, usize}
-use denote.Ref.{RefT, now}
+use denote.Builtin.{u8, u32}
+use denote.Ref.{now}
 use denote.Slice.{sliceVal, slice-vals, ShrSlice, Room}
 use denote.Lend.{lends-shr-slice}
 use denote.Index.{row}

@@ -59,7 +59,8 @@ Bare sp = ‵ (froom (sp .0) (sp .1) 0)
 abbrev Has : {M : Type 1} {𝓤 : URA M} → Ty × ℕ × ℕ → Val → Item 𝓤
 Has sp v = ‵ (fat fullShare (sp .0) (sp .1) 0 v)
 
-within : {M : Type 1} {𝓤 : URA M} {H : Heap 𝓤} {A : Atoms 𝓤} {K : Type 0} {W : Given 𝓤 H A} {τ : Ty} {l : ℕ} {v : Val} → K → {i : Item 𝓤}
+-- a local that holds v, as a place of which a part is read
+pub within : {M : Type 1} {𝓤 : URA M} {H : Heap 𝓤} {A : Atoms 𝓤} {K : Type 0} {W : Given 𝓤 H A} {τ : Ty} {l : ℕ} {v : Val} → K → {i : Item 𝓤}
     → i ≡ ‵ (fat fullShare τ l 0 v) → Part K W i fullShare τ l 0 v (λ u. ‵ (fat fullShare τ l 0 u))
 within {K = K} {W = W} {τ = τ} {l = l} {v = v} t e = subst (λ (j : Item _). Part K W j fullShare τ l 0 v (λ u. ‵ (fat fullShare τ l 0 u))) (sym e) (whole t)
 

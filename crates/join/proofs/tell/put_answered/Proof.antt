@@ -16,7 +16,10 @@ same-length c = search needs
 
 returns : tie.Need-returns
 unfolding answered
-returns c = rw (c .before .before .before .before .before .if1 .taken) (c .before .before .put-line .ensures)
+returns c =
+    let at-line = c .before .before in
+    let at-if1 = at-line .before .before .before in
+    rw (at-if1 .if1 .taken) (at-line .put-line .ensures)
 
 slice-aggregate-put-line-2 : tie.Need-slice-aggregate-put-line-2
 slice-aggregate-put-line-2 c = search needs
@@ -29,7 +32,11 @@ same-length-2 c = search needs
 
 returns-2 : tie.Need-returns-2
 unfolding answered
-returns-2 c = rw (c .before .before .before .before .before .before .if1 .left, c .before .before .before .before .before .if2 .taken) (c .before .before .put-line2 .ensures)
+returns-2 c =
+    let at-line = c .before .before in
+    let at-if2 = at-line .before .before .before in
+    let at-if1 = at-if2 .before in
+    rw (at-if1 .if1 .left, at-if2 .if2 .taken) (at-line .put-line2 .ensures)
 
 slice-aggregate-put-line-3 : tie.Need-slice-aggregate-put-line-3
 slice-aggregate-put-line-3 c = search needs
@@ -42,7 +49,12 @@ same-length-3 c = search needs
 
 returns-3 : tie.Need-returns-3
 unfolding answered
-returns-3 c = rw (c .before .before .before .before .before .before .before .if1 .left, c .before .before .before .before .before .before .if2 .left, c .before .before .before .before .before .if3 .taken) (c .before .before .put-line3 .ensures)
+returns-3 c =
+    let at-line = c .before .before in
+    let at-if3 = at-line .before .before .before in
+    let at-if2 = at-if3 .before in
+    let at-if1 = at-if2 .before in
+    rw (at-if1 .if1 .left, at-if2 .if2 .left, at-if3 .if3 .taken) (at-line .put-line3 .ensures)
 
 slice-aggregate-put-line-4 : tie.Need-slice-aggregate-put-line-4
 slice-aggregate-put-line-4 c = search needs
@@ -55,11 +67,21 @@ same-length-4 c = search needs
 
 returns-4 : tie.Need-returns-4
 unfolding answered
-returns-4 c = rw (c .before .before .before .before .before .before .before .before .if1 .left, c .before .before .before .before .before .before .before .if2 .left, c .before .before .before .before .before .before .if3 .left, c .before .before .before .before .before .if4 .taken) (c .before .before .put-line4 .ensures)
+returns-4 c =
+    let at-line = c .before .before in
+    let at-if4 = at-line .before .before .before in
+    let at-if3 = at-if4 .before in
+    let at-if2 = at-if3 .before in
+    let at-if1 = at-if2 .before in
+    rw (at-if1 .if1 .left, at-if2 .if2 .left, at-if3 .if3 .left, at-if4 .if4 .taken) (at-line .put-line4 .ensures)
 
 returns-5 : tie.Need-returns-5
 unfolding answered puts
-returns-5 c = rw (c .before .before .before .if1 .left, c .before .before .if2 .left, c .before .if3 .left, c .if4 .left)
+returns-5 c =
+    let at-if3 = c .before in
+    let at-if2 = at-if3 .before in
+    let at-if1 = at-if2 .before in
+    rw (at-if1 .if1 .left, at-if2 .if2 .left, at-if3 .if3 .left, c .if4 .left)
 
 pub put-answered-spec : {M : Type 1} → statement M
 put-answered-spec =

@@ -20,7 +20,11 @@ same-length : tie.Need-same-length
 same-length c = search needs
 
 returns : tie.Need-returns
-returns c = line-put _ _ _ _ _ _ _ (c .before .before .before .before .before .before .before .before .before .before .before .put-named .ensures) (c .before .before .before .before .before .before .put-named2 .ensures) (c .before .before .put-byte .ensures)
+returns c =
+    let at-byte = c .before .before in
+    let at-second = at-byte .before .before .before .before in
+    let at-first = at-second .before .before .before .before .before in
+    line-put _ _ _ _ _ _ _ (at-first .put-named .ensures) (at-second .put-named2 .ensures) (at-byte .put-byte .ensures)
 
 pub put-line-spec : {M : Type 1} → statement M
 put-line-spec =

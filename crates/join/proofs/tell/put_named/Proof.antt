@@ -14,7 +14,10 @@ same-length : tie.Need-same-length
 same-length c = search needs
 
 returns : tie.Need-returns
-returns c = puts-then _ _ _ _ _ (c .before .before .before .before .before .before .put-bytes .ensures) (c .before .before .put-decimal .ensures)
+returns c =
+    let at-decimal = c .before .before in
+    let at-bytes = at-decimal .before .before .before .before in
+    puts-then _ _ _ _ _ (at-bytes .put-bytes .ensures) (at-decimal .put-decimal .ensures)
 
 pub put-named-spec : {M : Type 1} → statement M
 put-named-spec = tie.close (tie.spec put-bytes-requires put-decimal-requires same-length returns)

@@ -38,7 +38,13 @@ same-length : tie.Need-same-length
 same-length c = search needs
 
 returns : tie.Need-returns
-returns c = words-put _ _ _ _ _ _ _ _ _ (c .before .before .before .before .before .before .before .before .before .before .before .before .before .before .before .before .before .before .before .word .ensures) (c .before .before .before .before .before .before .before .before .before .before .before .before .before .word2 .ensures) (c .before .before .before .before .before .before .before .word3 .ensures) (c .before .before .before .before .before .before .before .before .before .before .before .before .before .before .before .before .before .before .put-named .ensures) (c .before .before .before .before .before .before .before .before .before .before .before .before .put-named2 .ensures) (c .before .before .before .before .before .before .put-named3 .ensures) (c .before .before .put-byte .ensures)
+returns c =
+    let at-byte = c .before .before in
+    let at-area = at-byte .before .before .before .before in
+    let at-history = at-area .before .before .before .before .before .before in
+    let at-link = at-history .before .before .before .before .before .before in
+    words-put _ _ _ _ _ _ _ _ _ (at-link .before .word .ensures) (at-history .before .word2 .ensures) (at-area .before .word3 .ensures)
+    (at-link .put-named .ensures) (at-history .put-named2 .ensures) (at-area .put-named3 .ensures) (at-byte .put-byte .ensures)
 
 pub put-words-spec : {M : Type 1} → statement M
 put-words-spec =

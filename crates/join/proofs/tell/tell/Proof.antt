@@ -29,8 +29,16 @@ same-length c = search needs
 
 returns : tie.Need-returns
 returns c =
-    let at-args = c .before .before .before .before .before .before .before .before .before .before .before .before .before .before .before in
-    told-so (callOf (at-args .args .act)) (reply (at-args .args .answer)) (at-args .args .pers .now) _ _ _ _ _ (c .before .before .before .before .before .before .before .before .before .before .reaches-all .ensures) (c .before .before .before .before .before .before .before .before .before .before .before .before .number .ensures) (c .before .before .before .before .before .before .before .before .before .before .before .value .ensures) (tells-crash _ _ _ _ _ _ _ (c .before .before .before .before .before .before .before .before .before .if1 .taken) (c .before .before .before .before .before .before .before .put-words .ensures) (c .before .before .put-line .ensures))
+    let at-line = c .before .before in
+    let at-words = at-line .before .before .before .before .before in
+    let at-if = at-words .before .before in
+    let at-reaches = at-if .before in
+    let at-value = at-reaches .before in
+    let at-number = at-value .before in
+    let at-args = at-number .before .before .before in
+    told-so (callOf (at-args .args .act)) (reply (at-args .args .answer)) (at-args .args .pers .now) _ _ _ _ _
+    (at-reaches .reaches-all .ensures) (at-number .number .ensures) (at-value .value .ensures)
+    (tells-crash _ _ _ _ _ _ _ (at-if .if1 .taken) (at-words .put-words .ensures) (at-line .put-line .ensures))
 
 put-answered-requires : tie.Need-put-answered-requires
 put-answered-requires c κs = search needs
@@ -40,8 +48,15 @@ same-length-2 c = search needs
 
 returns-2 : tie.Need-returns-2
 returns-2 c =
-    let at-args = c .before .before .before .before .before .before .before .before .before .before .before in
-    told-so (callOf (at-args .args .act)) (reply (at-args .args .answer)) (at-args .args .pers .now) _ _ _ _ _ (c .before .before .before .before .before .before .reaches-all .ensures) (c .before .before .before .before .before .before .before .before .number .ensures) (c .before .before .before .before .before .before .before .value .ensures) (tells-first _ _ _ _ _ _ (c .before .before .before .before .before .if1 .left) (c .if2 .taken) (c .before .before .before .put-answered .ensures))
+    let at-answered = c .before .before .before in
+    let at-if = at-answered .before .before in
+    let at-reaches = at-if .before in
+    let at-value = at-reaches .before in
+    let at-number = at-value .before in
+    let at-args = at-number .before .before .before in
+    told-so (callOf (at-args .args .act)) (reply (at-args .args .answer)) (at-args .args .pers .now) _ _ _ _ _
+    (at-reaches .reaches-all .ensures) (at-number .number .ensures) (at-value .value .ensures)
+    (tells-first _ _ _ _ _ _ (at-if .if1 .left) (c .if2 .taken) (at-answered .put-answered .ensures))
 
 put-words-requires-2 : tie.Need-put-words-requires-2
 put-words-requires-2 c κs = search needs
@@ -51,8 +66,17 @@ same-length-3 c = search needs
 
 returns-3 : tie.Need-returns-3
 returns-3 c =
-    let at-args = c .before .before .before .before .before .before .before .before .before .before .before .before .before .before .before in
-    told-so (callOf (at-args .args .act)) (reply (at-args .args .answer)) (at-args .args .pers .now) _ _ _ _ _ (c .before .before .before .before .before .before .before .before .before .before .reaches-all .ensures) (c .before .before .before .before .before .before .before .before .before .before .before .before .number .ensures) (c .before .before .before .before .before .before .before .before .before .before .before .value .ensures) (tells-more _ _ _ _ _ _ _ (c .before .before .before .before .before .before .before .before .before .if1 .left) (c .before .before .before .before .if2 .left) (c .before .before .before .before .before .before .before .put-answered .ensures) (c .before .before .put-words2 .ensures))
+    let at-words = c .before .before in
+    let at-if2 = at-words .before .before in
+    let at-answered = at-if2 .before .before .before in
+    let at-if = at-answered .before .before in
+    let at-reaches = at-if .before in
+    let at-value = at-reaches .before in
+    let at-number = at-value .before in
+    let at-args = at-number .before .before .before in
+    told-so (callOf (at-args .args .act)) (reply (at-args .args .answer)) (at-args .args .pers .now) _ _ _ _ _
+    (at-reaches .reaches-all .ensures) (at-number .number .ensures) (at-value .value .ensures)
+    (tells-more _ _ _ _ _ _ _ (at-if .if1 .left) (at-if2 .if2 .left) (at-answered .put-answered .ensures) (at-words .put-words2 .ensures))
 
 pub tell-spec : {M : Type 1} → statement M
 tell-spec =
