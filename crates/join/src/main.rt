@@ -11,7 +11,6 @@ use machine::call;
 use machine::make_fresh;
 use machine::work::blank;
 ghost use mathlib.Core.Path.{_≡_};
-ghost use lib.ListN.{length};
 ghost use Rattle.io.specs.Counts.{Counts};
 ghost use lib.Dec.{ltb};
 ghost use Rattle.bits.specs.Marks.{pick};
