@@ -1,0 +1,3 @@
+mod Texts
+mod Lending
+mod Going

@@ -1,0 +1,100 @@
+-- The host's calls, and what it writes of them.
+use Prim.Native.Nat.{ℕ, zero, suc}
+use mathlib.Core.Bool.{Bool}
+use mathlib.Core.List.{List, [], _∷_, _++_}
+use lib.ListN.{getD}
+use lib.Dec.{eqb, ltb}
+use Rattle.bits.specs.Marks.{pick}
+use Rattle.dtml.specs.declared.Act.{Act}
+use Rattle.dtml.specs.declared.Act.the-variants.{Begin, Write, Commit, Step, Crash, RecoverUpTo}
+use Rattle.dtml.specs.Table.{Reply}
+use Rattle.dtml.specs.Store.{Store, fresh}
+use Rattle.dtml.specs.Asked.{Call, Outcome}
+use Rattle.dtml.specs.Acts.{callOf}
+use Rattle.dtml.specs.Calls.{call}
+use Rattle.doing.specs.Carrying.{reachesAll}
+use Rattle.text.specs.Buffer.{Buffer, buffer, puts}
+use Rattle.text.specs.Text.{decimal}
+
+-- ---- the calls, by their place: an operation is asked for, and then its lines are done
+
+abbrev pub stepAt : ℕ → Act
+stepAt i = Step (pick (ltb i 17) 0 1)
+
+unfoldable pub actAt : ℕ → Act
+actAt i =
+    pick (eqb i 0) (Begin 0)
+    (pick (eqb i 3) (Write 0 0 41)
+    (pick (eqb i 11) (Write 0 1 42)
+    (pick (eqb i 17) Crash
+    (pick (eqb i 18) (RecoverUpTo 1000)
+    (pick (eqb i 19) (Begin 1)
+    (pick (eqb i 22) (Write 1 0 41)
+    (pick (eqb i 30) (Write 1 1 42)
+    (pick (eqb i 36) (Write 1 2 43)
+    (pick (eqb i 42) (Commit 1)
+    (stepAt i))))))))))
+
+-- ---- what is written of a call
+
+-- "begin: ", "write: ", "commit: ", "recovery: ", "the power fails: "
+abbrev pub beginText : List ℕ
+beginText = 98 ∷ 101 ∷ 103 ∷ 105 ∷ 110 ∷ 58 ∷ 32 ∷ []
+
+abbrev pub writeText : List ℕ
+writeText = 119 ∷ 114 ∷ 105 ∷ 116 ∷ 101 ∷ 58 ∷ 32 ∷ []
+
+abbrev pub commitText : List ℕ
+commitText = 99 ∷ 111 ∷ 109 ∷ 109 ∷ 105 ∷ 116 ∷ 58 ∷ 32 ∷ []
+
+abbrev pub recoveryText : List ℕ
+recoveryText = 114 ∷ 101 ∷ 99 ∷ 111 ∷ 118 ∷ 101 ∷ 114 ∷ 121 ∷ 58 ∷ 32 ∷ []
+
+abbrev pub crashText : List ℕ
+crashText = 116 ∷ 104 ∷ 101 ∷ 32 ∷ 112 ∷ 111 ∷ 119 ∷ 101 ∷ 114 ∷ 32 ∷ 102 ∷ 97 ∷ 105 ∷ 108 ∷ 115 ∷ 58 ∷ 32 ∷ []
+
+-- "persistent: link ", ", history ", ", area "
+abbrev pub linkText : List ℕ
+linkText = 112 ∷ 101 ∷ 114 ∷ 115 ∷ 105 ∷ 115 ∷ 116 ∷ 101 ∷ 110 ∷ 116 ∷ 58 ∷ 32 ∷ 108 ∷ 105 ∷ 110 ∷ 107 ∷ 32 ∷ []
+
+abbrev pub historyText : List ℕ
+historyText = 44 ∷ 32 ∷ 104 ∷ 105 ∷ 115 ∷ 116 ∷ 111 ∷ 114 ∷ 121 ∷ 32 ∷ []
+
+abbrev pub areaText : List ℕ
+areaText = 44 ∷ 32 ∷ 97 ∷ 114 ∷ 101 ∷ 97 ∷ 32 ∷ []
+
+-- a name, and the answer's number and value; 32 is the space, 10 the line feed
+unfoldable pub line : List ℕ → ℕ → ℕ → List ℕ
+line name n v = (name ++ decimal n) ++ (((32 ∷ []) ++ decimal v) ++ (10 ∷ []))
+
+-- an operation that is done is written; of its lines before the last nothing is
+unfoldable pub answered : ℕ → ℕ → List ℕ
+answered n v =
+    pick (eqb n 1) (line beginText n v)
+    (pick (eqb n 3) (line writeText n v) (pick (eqb n 4) (line commitText n v) (pick (eqb n 6) (line recoveryText n v) [])))
+
+-- the three persistent words
+unfoldable pub words : List ℕ → List ℕ
+words pers =
+    (linkText ++ decimal (getD pers 0 0)) ++ ((historyText ++ decimal (getD pers 1 0)) ++ ((areaText ++ decimal (getD pers 2 0)) ++ (10 ∷ [])))
+
+-- they are written at a crash, and after a commit and recovery
+unfoldable pub tells : Bool → ℕ → ℕ → List ℕ → List ℕ
+tells crashed n v pers =
+    pick crashed (words pers ++ line crashText n v) (pick (ltb n 4) (answered n v) (answered n v ++ words pers))
+
+abbrev pub told : Call → Reply → List ℕ → List ℕ
+told c a pers = tells (reachesAll c) (a .number) (a .value) pers
+
+-- ---- after the first i calls: the store, and the text in a buffer
+
+unfoldable pub storeAt : ℕ → Store
+storeAt zero = fresh 4
+storeAt (suc i) = call (storeAt i) (callOf (actAt i)) .store
+
+abbrev pub outcomeAt : ℕ → Outcome
+outcomeAt i = call (storeAt i) (callOf (actAt i))
+
+unfoldable pub textAt : List ℕ → ℕ → Buffer
+textAt out zero = buffer out 0
+textAt out (suc i) = puts (textAt out i) (told (callOf (actAt i)) (outcomeAt i .reply) (outcomeAt i .store .mem .pers))
