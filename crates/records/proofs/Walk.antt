@@ -13,7 +13,7 @@ use borrow.Author.Tests.{lt-ltb, le-ltb}
 use mathlib.Core.Bool.{Bool, true, false, _&&_}
 use mir.Syntax.{Ty, Name, Place, Opd as Operand, Body, Rv as RValue, skip, seq, call, copy, place, assign, block, loop, cond, exit, Local, local, Fn}
 use mir.Val.{Val, vbool, hasTy, WT}
-use base.Logic.{SProp, ent, sep, emp, via, id⊢, comm∗, monoL, monoR, fst∗, emp∗}
+use base.Logic.{SProp, ent, sep, emp, via, id⊢, comm∗, mono∗, monoL, monoR, fst∗, emp∗}
 use base.Fml.{Share, Fml, ftrue, fat, froom, fdies}
 use prog.Wp.{Heap, Out, next, atReturn, Env, Calls, Loops, Tables, Wp, WpFn, spotOf, evalOpds, afterSeq, afterBlock, afterTurn}
 use ghost.Atoms.{Atoms}
@@ -135,6 +135,22 @@ module _ {M : Type 1} {𝓤 : URA M} {H : Heap 𝓤} {A : Atoms 𝓤} (K : Type 
       (lets-go 𝓤 H A W e c (and-fst (frees-as c) (freeable cs) h) (cells E cs) (dying E ++ Γ))
       (monoR 𝓤 (sep 𝓤 (H .room (e .0) (e .1) 0) (H .dies (e .0) (e .1))) (freed E cs (and-snd (frees-as c) (freeable cs) h) Γ g s))
 
+  -- the locals from n on are bare again, whatever they hold
+  bared : (E : Env 𝓤 H) (n : ℕ) (cs : List Cell) → T (freeable (drop n cs)) → (Γ : List (Item 𝓤))
+      → ent 𝓤 (⋆ 𝓤 H A (cells E cs ++ Γ)) (⋆ 𝓤 H A (cells E (take n cs) ++ Γ))
+  bared [] n cs h Γ = id⊢ 𝓤 (⋆ 𝓤 H A Γ)
+  bared (e ∷ E) zero [] h Γ = id⊢ 𝓤 _
+  bared (e ∷ E) (suc n) [] h Γ = id⊢ 𝓤 _
+  bared (e ∷ E) zero (c ∷ cs) h Γ =
+      via 𝓤 (sep 𝓤 (mean 𝓤 H A (cell e c)) (⋆ 𝓤 H A (cells E cs ++ Γ))) (pop 𝓤 H A (cell e c) (cells E cs ++ Γ))
+      (via 𝓤 (sep 𝓤 (H .room (e .0) (e .1) 0) (⋆ 𝓤 H A (cells E [] ++ Γ)))
+      (mono∗ 𝓤 (as-room 𝓤 H A W e c (and-fst (frees-as c) (freeable cs) h)) (bared E zero cs (and-snd (frees-as c) (freeable cs) h) Γ))
+      (push 𝓤 H A (cell e bare) (cells E [] ++ Γ)))
+  bared (e ∷ E) (suc n) (c ∷ cs) h Γ =
+      via 𝓤 (sep 𝓤 (mean 𝓤 H A (cell e c)) (⋆ 𝓤 H A (cells E cs ++ Γ))) (pop 𝓤 H A (cell e c) (cells E cs ++ Γ))
+      (via 𝓤 (sep 𝓤 (mean 𝓤 H A (cell e c)) (⋆ 𝓤 H A (cells E (take n cs) ++ Γ))) (monoR 𝓤 (mean 𝓤 H A (cell e c)) (bared E n cs h Γ))
+      (push 𝓤 H A (cell e c) (cells E (take n cs) ++ Γ)))
+
 module _ {M : Type 1} (𝓤 : URA M) (H : Heap 𝓤) (A : Atoms 𝓤) where
   nth-put : (n : ℕ) (Γ : List (Item 𝓤)) (i : Item 𝓤) {τ : Ty} {b o : ℕ} → nth 𝓤 H A n Γ ≡ ‵ (froom τ b o) → nth 𝓤 H A n (put 𝓤 H A n i Γ) ≡ i
   nth-put n [] i e = cc
@@ -191,6 +207,14 @@ module _ {M : Type 1} {𝓤 : URA M} {H : Heap 𝓤} {A : Atoms 𝓤} {K : Type 
           → Step K W (put 𝓤 H A n (‵ (fat fullShare (spotOf 𝓤 H E i .0) (spotOf 𝓤 H E i .1) 0 v)) Γ) (runs C Λ E rest q) Γ
           (runs C Λ E (seq (assign (place i []) rv) rest) q)
       sets t rv n e wt = assigns t rv (from t (stop t)) (init t n e wt)
+
+      -- what the locals from n on hold is let go
+      pub forgets : K → {b : Body} (n : ℕ) (cs : List Cell) → T (freeable (drop n cs)) → (Γ′ : List (Item 𝓤)) → Γ ≡ cells E cs ++ Γ′
+          → Step K W (cells E (take n cs) ++ Γ′) (runs C Λ E b q) Γ (runs C Λ E b q)
+      forgets t {b} n cs h Γ′ e = step (λ s. record {
+        prf = via 𝓤 (⋆ 𝓤 H A (cells E (take n cs) ++ Γ′))
+            (subst (λ (Δ : List (Item 𝓤)). ent 𝓤 (⋆ 𝓤 H A Δ) (⋆ 𝓤 H A (cells E (take n cs) ++ Γ′))) (sym e) (bared K W E n cs h Γ′)) (s .prf);
+      })
 
       -- a call's result is a local's first value
       pub gets : K → {i : ℕ} {r : Val} {rest : Body} (n : ℕ) → nth 𝓤 H A n Γ ≡ ‵ (froom (spotOf 𝓤 H E i .0) (spotOf 𝓤 H E i .1) 0)
