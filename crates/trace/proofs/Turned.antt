@@ -79,7 +79,7 @@ module _ {bs : List ℕ} {n : ℕ} {first vol pers old out : List ℕ} {ts : Lis
   pub asks-at : (i : Item) → foundOf i ≡ found (drop at bs) → OneLineAt (foundOf i)
   asks-at End e = tt
   asks-at (Stops k) e = tt
-  asks-at (Does act k) e = one-line-so loop {act = act} {bytes = k} {item = Does act k} e refl refl
+  asks-at (Does act k) e = one-line-so bs at act k (sym e)
 
   -- a turn more
   abbrev pub After : Found → Moment → Type 0

@@ -1,5 +1,5 @@
 -- What a turn of the replay's loop leaves, of what it is handed. A reader of the promises can leave this out.
-use Prim.Native.Nat.{ℕ, _+_, _≤_}
+use Prim.Native.Nat.{ℕ, _≤_}
 use mathlib.Core.Bool.{Bool, true, false}
 use mathlib.Core.List.{List}
 use lib.ListN.{length}

@@ -149,6 +149,24 @@ fn stop(course: Course, tx: Tx, refusal: u64) -> Moved
     }
 }
 
+// After a record.
+fn going_on(marks: Marks, glb: u32, recovery: Recovery, totals: Totals, place: usize) -> Course
+    ensures { λ r. ⌜ r ≡ record { held = record { marks = marks; glb = glb; recovery = recovery }; totals = totals; place = place; going = true; refusal = 0 } ⌝ }
+{
+    let held = Held {
+        marks,
+        glb,
+        recovery,
+    };
+    Course {
+        held,
+        totals,
+        place,
+        going: true,
+        refusal: 0,
+    }
+}
+
 // One item of the trace: a record is done on what it is handed, counted, and its line put.
 fn turn(
     vol: &mut [u32],
@@ -179,18 +197,7 @@ fn turn(
             let put = put_answer_if(out, place, totals.records, answer);
             let healed = done.recovery;
             let turned = done.tx;
-            let after = Held {
-                marks,
-                glb,
-                recovery: healed,
-            };
-            let on = Course {
-                held: after,
-                totals,
-                place: put,
-                going: true,
-                refusal: 0,
-            };
+            let on = going_on(marks, glb, healed, totals, put);
             let cut = reaches_all(act);
             Moved {
                 course: on,

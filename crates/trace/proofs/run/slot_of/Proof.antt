@@ -1,35 +1,26 @@
+-- `trace::run::slot_of` meets its contract: of a record that asks for something it is `slot`'s, else 0.
 use borrow.Author.Needs.{needs}
 use Rattle.trace.proofs.run.slot_of.Statement.{statement}
 use Rattle.trace.proofs.run.slot_of.Tie as tie
-use Rattle.trace.proofs.run.slot_of.Reads as reads
-use Rattle.trace.proofs.run.slot_of.Lts as lts
-use Rattle.doing.proofs.slot.Reads as slot-reads
 
--- src/run.rt:125:22
 enum-known-item : tie.Need-enum-known-item
 enum-known-item c = search needs
 
--- src/run.rt:125:35
 slot-requires : tie.Need-slot-requires
 slot-requires c κs = search needs
 
--- src/run.rt:126:31
 enum-told : tie.Need-enum-told
 enum-told c = search needs
 
--- src/run.rt:127:22
 enum-told-2 : tie.Need-enum-told-2
 enum-told-2 c = search needs
 
--- src/run.rt:121:1
 returns : tie.Need-returns
 returns c = (rw (c .before .before .item .given .1) (c .slot .ensures .0), c .slot .ensures .1)
 
--- src/run.rt:121:1
 returns-2 : tie.Need-returns-2
 returns-2 c = search needs
 
--- src/run.rt:121:1
 returns-3 : tie.Need-returns-3
 returns-3 c = search needs
 
