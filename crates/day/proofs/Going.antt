@@ -4,9 +4,8 @@ use Prim.Native.Nat.{ℕ, _+_, _-_, _*_, _≤_, _<_}
 use native.Mathlib.Omega.{arith}
 use native.Mathlib.Nat.{zero-add}
 use mathlib.Core.Path.{_≡_, refl, sym, ap, subst, _∙_}
-use mathlib.Core.Bool.{true, false}
 use mathlib.Core.List.{List, [], _∷_, _++_, append-assoc, append-nil}
-use lib.ListN.{length, getD, set, drop, length-append, length-drop, length-replicate}
+use lib.ListN.{length, drop, length-append, length-drop}
 use lib.Seq.{drop-drop}
 use lib.Dec.{eqb, leb}
 use Rattle.bits.specs.Marks.{pick, countOf}
@@ -16,7 +15,6 @@ use Rattle.dtml.specs.declared.Recovery.{Recovery}
 use Rattle.dtml.specs.declared.Tx.{Tx}
 use Rattle.dtml.specs.Table.{Reply, reply}
 use Rattle.dtml.specs.Store.{Store, memory, store, fresh, recordAt}
-use Rattle.dtml.specs.Lines.{crashTxs}
 use Rattle.dtml.specs.Asked.{flush, crash, recover, recoverUpTo, Call, on, sys, Outcome}
 use Rattle.dtml.specs.Checks.{notIdle}
 use Rattle.dtml.specs.Acts.{callOf}
@@ -28,20 +26,15 @@ use Rattle.dtml.proofs.Words.{pick-case}
 use Rattle.dtml.proofs.Worlds.{InvW, tell-inv, dawn-inv}
 use Rattle.dtml.proofs.Low.{LowW, tell-low, dawn-low}
 use Rattle.dtml.proofs.Fitness.{never-unfit}
-use Rattle.dtml.proofs.Lift.{default-free}
 use Rattle.dtml.proofs.Counts.{tell-adds}
 use Rattle.machine.specs.declared.Held.{Held}
 use Rattle.machine.specs.Given.{storeOf}
-use Rattle.reader.specs.declared.Item.{Item}
-use Rattle.reader.specs.declared.Item.the-variants.{End, Stops, Does}
-use Rattle.reader.specs.Said.{foundOf, placeAfter}
 use Rattle.reader.specs.Trace.{kinds, does, found, Script, script, scriptOf}
-use Rattle.reader.proofs.Scripts.{AllAsk, scriptFrom, script-more, script-end, script-stops, script-does, found-asks, found-bytes, after-inside, found-refusal}
+use Rattle.reader.proofs.Scripts.{AllAsk, scriptFrom, script-more, script-does, found-asks, found-bytes}
 use Rattle.text.specs.Buffer.{Buffer, buffer, puts}
-use Rattle.text.proofs.Laws.{puts-length, puts-append, stop-short, totals-short}
-use Rattle.doing.specs.declared.Carried.{Carried}
-use Rattle.doing.specs.Carrying.{slotOf, carry, Left, leftOf, reachesAll, callTxs, putBack}
-use Rattle.doing.proofs.Carries.{slot-low, carries}
+use Rattle.text.proofs.Laws.{puts-append, stop-short, totals-short}
+use Rattle.doing.specs.Carrying.{slotOf, carry, Left, putBack}
+use Rattle.doing.proofs.Carries.{carries}
 use Rattle.tally.specs.Tally.{committedIn}
 use Rattle.day.specs.declared.Totals.{Totals}
 use Rattle.day.specs.Replay.{answers, answered, totals, totalsOf, Ending, done, answerText, answerLines, stopText, totalsText, endText, textOf}
@@ -320,38 +313,14 @@ pub looping-start : (trace out vol pers old : List ℕ) (held : Held) (txs : Lis
 looping-start trace out vol pers old held txs t e some few three short q =
     (subst (λ (s : Store). Going (length vol) trace out s t 3 (buffer out 0)) (sym e) (rw q (going-start (length vol) trace out some few three)), short)
 
--- the rows that a replay starts with are equally long
-module _ (vol pers old : List ℕ) (held : Held) (txs : List Tx) (e : storeOf vol pers old held txs ≡ fresh (length vol)) where
-  pub start-pers : length pers ≡ length vol
-  unfolding fresh
-  start-pers = ap (λ (s : Store). length (s .mem .pers)) e ∙ length-replicate (length vol) 0
-
-  pub start-old : length old ≡ length vol
-  unfolding fresh
-  start-old = ap (λ (s : Store). length (s .mem .old)) e ∙ length-replicate (length vol) 0
-
-crashed-rows : (c : Call) (ts : List Tx) → reachesAll c ≡ true → crashTxs ts ≡ callTxs c ts
-crashed-rows c ts e = rw e
-
-kept-rows : (c : Call) (ts : List Tx) → reachesAll c ≡ false → ts ≡ callTxs c ts
-kept-rows c ts e = rw e
+-- a record of a trace is one recovery line at the most
+pub one-line-so : (bs : List ℕ) (at : ℕ) (act : Act) (bytes : ℕ) → found (drop at bs) ≡ does (callOf act) bytes → OneLine (callOf act)
+one-line-so bs at act bytes = found-asks OneLine (drop at bs) (callOf act) bytes lines-one
 
 module _ {trace : List ℕ} {n : ℕ} {out₀ vol pers old out marks : List ℕ} {glb : ℕ} {recovery : Recovery} {rows : List Tx} {totals : Totals} {at place : ℕ}
     (loop : Looping trace n out₀ vol pers old out marks glb recovery rows totals at place) where
   pub rows-long : length rows ≡ 64
   rows-long = loop .0 .inv .shape .txs-long
-
-  pub vol-long : length vol ≡ n
-  vol-long = loop .0 .inv .shape .vol-long
-
-  pub pers-long : length pers ≡ n
-  pers-long = loop .0 .inv .shape .pers-long
-
-  pub old-long : length old ≡ n
-  old-long = loop .0 .inv .shape .old-long
-
-  pub out-long : length out ≡ length out₀
-  out-long = ap (λ (o : Buffer). length (o .bytes)) (loop .0 .put-so) ∙ puts-length (buffer out₀ 0) (loop .0 .sofar)
 
   pub next-record : totals .records < 65536
   next-record =
@@ -360,26 +329,8 @@ module _ {trace : List ℕ} {n : ℕ} {out₀ vol pers old out marks : List ℕ}
       let m = loop .1 in
       omega arith
 
-  pub next-number : (totals′ : Totals) (c : Call) (a : Reply) → totals′ ≡ counted totals recovery marks c a → totals′ .records < 100000
-  unfolding counted
-  next-number totals′ c a e =
-      let z : totals′ .records ≡ totals .records + 1 = ap (λ (t : Totals). t .records) e in
-      let y = next-record in
-      omega arith
-
   pub few-records : Few 65536 totals
   few-records = few-below (totals .records) totals (loop .0 .few) next-record
-
-  -- the trace ends, or a record is refused
-  module _ {item : Item} (said : foundOf item ≡ found (drop at trace)) where
-    pub at-end : item ≡ End → restOf trace at ≡ script [] 0
-    at-end is = script-end (drop at trace) (sym said ∙ ap foundOf is)
-
-    pub refusal-small : {k : ℕ} → item ≡ Stops k → k < 100
-    refusal-small {k} is = found-refusal (drop at trace) k (sym said ∙ ap foundOf is)
-
-    pub at-refusal : {k : ℕ} → item ≡ Stops k → restOf trace at ≡ script [] k
-    at-refusal {k} is = script-stops (drop at trace) k (sym said ∙ ap foundOf is)
 
   pub over : {k m : ℕ} {r : Ended} {out′ : List ℕ} → k < 100 → restOf trace at ≡ script [] k → m ≡ pick (eqb k 0) 0 (totals .records + 1)
       → r ≡ record { refusal = k; number = m; totals = totals; length = r .length; held = record { marks = marks; glb = glb; recovery = recovery } }
@@ -397,51 +348,3 @@ module _ {trace : List ℕ} {n : ℕ} {out₀ vol pers old out marks : List ℕ}
             (o ∙ ap (λ (j : ℕ). puts (buffer out place) (endText k j totals)) f);
         short = text-so n trace out₀ s totals at (buffer out place) (loop .0) k e small (loop .1);
       }
-
-  module _ {act : Act} {bytes after : ℕ} {item : Item} (said : foundOf item ≡ found (drop at trace)) (moved : after ≡ placeAfter at (found (drop at trace)))
-      (is : item ≡ Does act bytes) where
-    here : found (drop at trace) ≡ does (callOf act) bytes
-    here = sym said ∙ ap foundOf is
-
-    past-it : after ≡ at + bytes
-    past-it = moved ∙ ap (placeAfter at) here
-
-    pub one-line-so : (a : Reply) → linesIn (callOf act) a ≤ 1
-    one-line-so = found-asks OneLine (drop at trace) (callOf act) bytes lines-one here
-
-    pub nearer : length trace - after < length trace - at
-    nearer =
-        let b = after-inside trace at (callOf act) bytes here in
-        let e = past-it in
-        omega arith
-
-    module _ {vol′ pers′ old′ out′ marks′ : List ℕ} {glb′ i : ℕ} {rows′ : List Tx} {totals′ : Totals} {place′ : ℕ} (d : Tx) (l : Carried)
-        (slot : i ≡ slotOf (callOf act))
-        (carried : leftOf l (memory vol′ pers′ old′ marks′ glb′) ≡ carry (memory vol pers old marks glb) recovery (getD rows i d) (callOf act))
-        (tallied : totals′ ≡ counted totals recovery marks (callOf act) (reply (l .answer)))
-        (printed : buffer out′ place′ ≡ puts (buffer out place) (answerText (totals′ .records) (reply (l .answer))))
-        (short : length (answerText (totals′ .records) (reply (l .answer))) ≤ 30) where
-      pub again : rows′ ≡ callTxs (callOf act) (set rows i (l .tx))
-          → Looping trace n out₀ vol′ pers′ old′ out′ marks′ glb′ (l .recovery) rows′ totals′ after place′
-      unfolding counted
-      again e =
-          let low : i < length rows = rw (slot, rows-long) (slot-low (callOf act)) in
-          let same : getD rows i d ≡ recordAt rows (slotOf (callOf act)) = default-free rows i d low ∙ ap (recordAt rows) slot in
-          let step =
-          going-on n trace out₀ (store (memory vol pers old marks glb) recovery rows) totals at (buffer out place) (loop .0) act bytes here
-          (leftOf l (memory vol′ pers′ old′ marks′ glb′))
-          (carried ∙ ap (λ (x : Tx). carry (memory vol pers old marks glb) recovery x (callOf act)) same)
-          (rw tallied at short) in (
-            subst (λ (o : Buffer). Going n trace out₀ (store (memory vol′ pers′ old′ marks′ glb′) (l .recovery) rows′) totals′ after o)
-                (sym printed)
-                (rw (past-it, e, tallied, slot) step),
-            loop .1,
-          )
-
-      pub again-crash : reachesAll (callOf act) ≡ true → rows′ ≡ crashTxs (set rows i (l .tx))
-          → Looping trace n out₀ vol′ pers′ old′ out′ marks′ glb′ (l .recovery) rows′ totals′ after place′
-      again-crash k e = again (e ∙ crashed-rows (callOf act) _ k)
-
-      pub again-kept : reachesAll (callOf act) ≡ false → rows′ ≡ set rows i (l .tx)
-          → Looping trace n out₀ vol′ pers′ old′ out′ marks′ glb′ (l .recovery) rows′ totals′ after place′
-      again-kept k e = again (e ∙ kept-rows (callOf act) _ k)

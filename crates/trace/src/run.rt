@@ -17,17 +17,20 @@ use marks::Marks;
 use parts::answer::number;
 use parts::answer::value;
 use reader::Item;
-use reader::place::read_at;
+use reader::place::Reader;
+use reader::place::next;
 use system::crash_tx;
 use tally::committed_in;
 use tally::crashes_in;
 use tally::cut_in;
 use tally::lines_in;
 use text::put_answer;
-ghost use Prim.Native.Nat.{_≤_, _<_};
+ghost use Prim.Native.Nat.{_+_, _≤_, _<_};
 ghost use mathlib.Core.Path.{_≡_};
-ghost use mathlib.Core.Bool.{true};
+ghost use mathlib.Core.Bool.{true, false};
 ghost use lib.ListN.{length, replicate};
+ghost use lib.Dec.{eqb};
+ghost use Rattle.bits.specs.Marks.{pick};
 ghost use Rattle.dtml.specs.Table.{reply};
 ghost use Rattle.dtml.specs.declared.Phase.the-variants.{Fresh};
 ghost use Rattle.dtml.specs.Store.{fresh, tx as txOf};
@@ -36,10 +39,12 @@ ghost use Rattle.dtml.specs.Counting.{linesIn};
 ghost use Rattle.machine.specs.Given.{storeOf};
 ghost use Rattle.dtml.specs.Acts.{callOf};
 ghost use Rattle.reader.specs.Trace.{scriptOf};
+ghost use Rattle.reader.specs.Said.{foundOf};
 ghost use Rattle.text.specs.Buffer.{buffer, puts};
-ghost use Rattle.day.specs.Replay.{answerText, done as doneOf};
+ghost use Rattle.day.specs.Replay.{totals as totalsFrom, answerText, endText, done as doneOf};
 ghost use Rattle.day.specs.Ends.{Ends};
 ghost use Rattle.day.specs.Counted.{counted as countedOf, Few};
+ghost use Rattle.trace.specs.Turning.{slotAt, memoryOf, turnOf, momentOf, OneLineAt, Brief};
 
 // The numbers of the T line after one record more, which found recovery and the marks so.
 fn counted(totals: Totals, recovery: Recovery, marks: Marks, act: Act, answer: Answer) -> Totals
@@ -82,6 +87,156 @@ fn crash_txs(txs: [Tx; 64]) -> [Tx; 64]
     next
 }
 
+// How far a replay has come: what the store holds beside its rows, the numbers of the T line, and how long the text is. It goes on, or the trace has ended,
+// or a record is refused.
+pub(crate) struct Course {
+    pub held: Held,
+    pub totals: Totals,
+    pub place: usize,
+    pub going: bool,
+    pub refusal: u64,
+}
+
+// What one item leaves: how far the replay has come, the record that was handed over, and whether a crash reached the others.
+pub(crate) struct Moved {
+    pub course: Course,
+    pub tx: Tx,
+    pub cut: bool,
+}
+
+fn first(held: Held) -> Course
+    ensures { λ r. ⌜ r ≡ record { held = held; totals = totalsFrom 0 0 0 0 0; place = 0; going = true; refusal = 0 } ⌝ }
+{
+    let totals = nothing();
+    Course {
+        held,
+        totals,
+        place: 0,
+        going: true,
+        refusal: 0,
+    }
+}
+
+// The record that an item names; where it names none, record 0 is handed over, and stays.
+fn slot_of(item: Item) -> usize
+    ensures { λ r. ⌜ (r ≡ slotAt (foundOf item)) × (r < 64) ⌝ }
+{
+    match item {
+        Item::Does { act, .. } => slot(act),
+        Item::Stops { .. } => 0,
+        Item::End => 0,
+    }
+}
+
+// No record more is done.
+fn stop(course: Course, tx: Tx, refusal: u64) -> Moved
+    ensures { λ r. ⌜ r ≡ record { course = record { held = course .held; totals = course .totals; place = course .place; going = false; refusal = refusal }; tx = tx; cut = false } ⌝ }
+{
+    let held = course.held;
+    let totals = course.totals;
+    let place = course.place;
+    let over = Course {
+        held,
+        totals,
+        place,
+        going: false,
+        refusal,
+    };
+    Moved {
+        course: over,
+        tx,
+        cut: false,
+    }
+}
+
+// After a record.
+fn going_on(marks: Marks, glb: u32, recovery: Recovery, totals: Totals, place: usize) -> Course
+    ensures { λ r. ⌜ r ≡ record { held = record { marks = marks; glb = glb; recovery = recovery }; totals = totals; place = place; going = true; refusal = 0 } ⌝ }
+{
+    let held = Held {
+        marks,
+        glb,
+        recovery,
+    };
+    Course {
+        held,
+        totals,
+        place,
+        going: true,
+        refusal: 0,
+    }
+}
+
+// One item of the trace: a record is done on what it is handed, counted, and its line put.
+fn turn(
+    vol: &mut [u32],
+    pers: &mut [u32],
+    old: &mut [u32],
+    out: &mut [u8],
+    course: Course,
+    tx: Tx,
+    item: Item,
+) -> Moved
+    requires { ⌜ Few 65536 (course .totals) × OneLineAt (foundOf item) ⌝ }
+    ensures { λ r. ⌜ (momentOf r (now (vol .exit)) (now (pers .exit)) (now (old .exit)) (now (out .exit))
+        ≡ turnOf (memoryOf (now (vol .entry)) (now (pers .entry)) (now (old .entry)) course) tx course (now (out .entry)) (foundOf item))
+        × Brief (memoryOf (now (vol .entry)) (now (pers .entry)) (now (old .entry)) course) tx course (foundOf item) ⌝ }
+{
+    match item {
+        Item::Does { act, .. } => {
+            let held = course.held;
+            let mut marks = held.marks;
+            let mut glb = held.glb;
+            let recovery = held.recovery;
+            let log = marks;
+            let before = course.totals;
+            let place = course.place;
+            let done = carry_out(vol, pers, old, &mut marks, &mut glb, recovery, tx, act);
+            let answer = done.answer;
+            let totals = counted(before, recovery, log, act, answer);
+            let put = put_answer_if(out, place, totals.records, answer);
+            let healed = done.recovery;
+            let turned = done.tx;
+            let on = going_on(marks, glb, healed, totals, put);
+            let cut = reaches_all(act);
+            Moved {
+                course: on,
+                tx: turned,
+                cut,
+            }
+        }
+        Item::Stops { refusal } => stop(course, tx, refusal),
+        Item::End => stop(course, tx, 0),
+    }
+}
+
+fn finished(out: &mut [u8], course: Course, rows: [Tx; 64]) -> Replayed
+    requires { ⌜ course .totals .records < 65536 ⌝ }
+    ensures { λ r. ⌜ (r ≡ record { ended = r .ended; changed = true; txs = rows })
+        × (r .ended ≡ record { refusal = course .refusal; number = pick (eqb (course .refusal) 0) 0 (course .totals .records + 1); totals = course .totals; length = r .ended .length; held = course .held })
+        × (buffer (now (out .exit)) (r .ended .length)
+        ≡ puts (buffer (now (out .entry)) (course .place)) (endText (course .refusal) (pick (eqb (course .refusal) 0) 0 (course .totals .records + 1)) (course .totals))) ⌝ }
+{
+    let held = course.held;
+    let marks = held.marks;
+    let glb = held.glb;
+    let recovery = held.recovery;
+    let totals = course.totals;
+    changed(
+        over(
+            out,
+            course.place,
+            course.refusal,
+            totals,
+            marks,
+            glb,
+            recovery,
+        ),
+        rows,
+    )
+}
+
+// The loop holds the reader, which moves on past each record.
 pub(crate) fn run(
     trace: &[u8],
     vol: &mut [u32],
@@ -95,43 +250,19 @@ pub(crate) fn run(
     ensures { λ r. ⌜ Ends (doneOf (length (now (vol .entry))) (scriptOf (now (trace .entry)))) (r .ended) (now (vol .exit)) (now (pers .exit)) (now (old .exit)) (r .txs) (now (out .entry)) (now (out .exit))
         × (r .changed ≡ true) ⌝ }
 {
-    let mut marks = held.marks;
-    let mut glb = held.glb;
-    let mut recovery = held.recovery;
+    let mut course = first(held);
     let mut rows = blank();
-    let mut totals = nothing();
-    let mut at: usize = 3;
-    let mut place: usize = 0;
-    loop {
-        let read = read_at(trace, at);
-        let item = read.item;
-        let after = read.after;
-        match item {
-            Item::Does { act, .. } => {
-                let i = slot(act);
-                let tx = rows[i];
-                let log = marks;
-                let done = carry_out(vol, pers, old, &mut marks, &mut glb, recovery, tx, act);
-                let answer = done.answer;
-                totals = counted(totals, recovery, log, act, answer);
-                place = put_answer_if(out, place, totals.records, answer);
-                at = after;
-                recovery = done.recovery;
-                let turned = done.tx;
-                rows[i] = turned;
-                if reaches_all(act) {
-                    rows = crash_txs(rows);
-                }
-            }
-            Item::Stops { refusal } => {
-                return changed(
-                    over(out, place, refusal, totals, marks, glb, recovery),
-                    rows,
-                );
-            }
-            Item::End => {
-                return changed(over(out, place, 0, totals, marks, glb, recovery), rows);
-            }
+    let mut reader = Reader { trace, at: 3 };
+    while course.going {
+        let read = next(reader);
+        let i = slot_of(read.item);
+        let done = turn(vol, pers, old, out, course, rows[i], read.item);
+        rows[i] = done.tx;
+        course = done.course;
+        reader = read.reader;
+        if done.cut {
+            rows = crash_txs(rows);
         }
     }
+    finished(out, course, rows)
 }

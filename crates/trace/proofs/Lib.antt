@@ -1,0 +1,5 @@
+mod Turned
+mod While
+mod Reading
+mod Asking
+mod Rows
