@@ -28,15 +28,6 @@ use Rattle.dtml.specs.Acts.{callOf}
 use Rattle.doing.specs.declared.Carried.{Carried}
 use Rattle.doing.specs.Carrying.{identifierOf, slotOf, carry, leftOf, turned, settledBeside, putBack}
 
--- ---- a place below 64
-
-pub slot-low : (c : Call) → slotOf c < 64
-slot-low c = go (leb 64 (identifierOf c)) refl
-  where
-    go : (b : Bool) → leb 64 (identifierOf c) ≡ b → pick b 0 (identifierOf c) < 64
-    go true e = omega arith
-    go false e = let z = leb-false 64 (identifierOf c) e in omega arith
-
 -- ---- the code's ways
 
 module _ (m : Memory) (r : Recovery) (t : Tx) where
