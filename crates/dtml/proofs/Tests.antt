@@ -21,7 +21,7 @@ use Rattle.dtml.specs.Asked.{begin, read, write, commit, step, flush, cr
 use Rattle.dtml.specs.Lines.{stage}
 use Rattle.dtml.specs.First.{anyOf}
 use Rattle.dtml.specs.Checks.{unfitRows, phasePast, unfitRecovery, unfitTx, unfitTxs, unfitBeside, unfitMemory, unfit, notIdle, isNew, isWaiting, isAtLine}
-use Rattle.dtml.specs.Rules.{Asks, by-read, by-write, by-flush, WrongLength, pers-differs, old-differs, no-word, above-256, not-64, Names, at-R1, at-W1, at-W2, at-W3, at-W4, at-W5, at-W6, at-W7, RecoveryNames, at-C3, at-C4, at-C5, Unfit, lengths, mark-past, glb-above, loc-above, phase-past, recovery-past, C2-unmarked, NoLine}
+use Rattle.dtml.specs.Rules.{CallNames, by-read, by-write, by-flush, WrongLength, pers-differs, old-differs, no-word, above-256, not-64, Names, at-R1, at-W1, at-W2, at-W3, at-W4, at-W5, at-W6, at-W7, RecoveryNames, at-C3, at-C4, at-C5, Unfit, lengths, mark-past, glb-above, loc-above, phase-past, recovery-past, C2-unmarked, NoLine}
 use Rattle.dtml.proofs.Words.{true-or-false, true-not-false, is-idle, idle-is, none-marked}
 use Rattle.dtml.proofs.Asks.{new-fresh, waiting-ready}
 use Rattle.dtml.proofs.Fit.{last, none, FitMemory, memory-fits, tx-fits}
@@ -48,12 +48,12 @@ wordOf (sys crash) = 0
 wordOf (sys recover) = 0
 wordOf (sys (recoverUpTo b)) = 0
 
-named : (c : Call) (w : ℕ) → Asks c w → wordOf c ≡ w
+named : (c : Call) (w : ℕ) → CallNames c w → wordOf c ≡ w
 named c w (by-read t e) = ap wordOf e
 named c w (by-write t v e) = ap wordOf e
 named c w (by-flush e) = ap wordOf e
 
-pub word-past : (n : ℕ) (c : Call) → Asks c (wordOf c) → Tests (leb n (wordOf c)) ((w : ℕ) × Asks c w × (n ≤ w))
+pub word-past : (n : ℕ) (c : Call) → CallNames c (wordOf c) → Tests (leb n (wordOf c)) ((w : ℕ) × CallNames c w × (n ≤ w))
 word-past n c a = record {
   holds = λ e. (wordOf c, a, leb-true n (wordOf c) e);
   fails = λ e h. let z = leb-false n (wordOf c) e in let y = named c (h .0) (h .1) in let x = h .2 in omega arith;

@@ -61,10 +61,10 @@ pub data Unfit (s : Store) : Type 0 where
 -- ---- 10 to 16
 
 -- 10: a call names word w
-pub data Asks (c : Call) (w : ℕ) : Type 0 where
-  by-read : (t : ℕ) → c ≡ on t (read w) → Asks c w
-  by-write : (t v : ℕ) → c ≡ on t (write w v) → Asks c w
-  by-flush : c ≡ sys (flush w) → Asks c w
+pub data CallNames (c : Call) (w : ℕ) : Type 0 where
+  by-read : (t : ℕ) → c ≡ on t (read w) → CallNames c w
+  by-write : (t v : ℕ) → c ≡ on t (write w v) → CallNames c w
+  by-flush : c ≡ sys (flush w) → CallNames c w
 
 -- 11: identifier 64 or more
 abbrev pub IdentifierPast : Call → Type 0
@@ -84,7 +84,7 @@ row false P below = below
 abbrev pub Condition : Store → Call → ℕ → Type 0
 Condition s c k =
     row (eqb k 9) (Unfit s)
-    (row (eqb k 10) ((w : ℕ) × Asks c w × (size (s .mem) ≤ w))
+    (row (eqb k 10) ((w : ℕ) × CallNames c w × (size (s .mem) ≤ w))
     (row (eqb k 11) (IdentifierPast c)
     (row (eqb k 12) (s .rec ≡ Idle → ⊥)
     (row (eqb k 13) (standsAt s c ≡ Fresh → ⊥)
