@@ -49,13 +49,17 @@ same-long a b h = sym (eqb-true a b (not-false (eqb a b) h))
 long-same : (a b : ℕ) → b ≡ a → not (eqb a b) ≡ false
 long-same a b h = rw (eq-eqb a b (sym h))
 
-pub fits : (vol pers old : ℕ) (k : List ℕ) (g : ℕ) (r : Recovery) → unfitBeside vol pers old k g r ≡ false → FitBeside vol pers old k g r
-unfolding unfitBeside unfitRows
-fits vol pers old k g r h =
-    let a = none (unfitRows vol pers old) (anyOf (standsFrom k vol ∷ ltb 65535 g ∷ unfitRecovery vol k r ∷ [])) h in
-    let b = none (standsFrom k vol) (anyOf (ltb 65535 g ∷ unfitRecovery vol k r ∷ [])) (a .1) in
-    let d = none (ltb 65535 g) (anyOf (unfitRecovery vol k r ∷ [])) (b .1) in
-    let p = none (not (eqb vol pers)) (anyOf (not (eqb vol old) ∷ eqb vol 0 ∷ ltb 256 vol ∷ [])) (a .0) in
+-- of the rows alone
+pub record FitRows (vol pers old : ℕ) : Type 0 where
+  pub pers-long : pers ≡ vol
+  pub old-long : old ≡ vol
+  pub some : 0 < vol
+  pub few : vol ≤ 256
+
+pub rows-fit : (vol pers old : ℕ) → unfitRows vol pers old ≡ false → FitRows vol pers old
+unfolding unfitRows
+rows-fit vol pers old h =
+    let p = none (not (eqb vol pers)) (anyOf (not (eqb vol old) ∷ eqb vol 0 ∷ ltb 256 vol ∷ [])) h in
     let q = none (not (eqb vol old)) (anyOf (eqb vol 0 ∷ ltb 256 vol ∷ [])) (p .1) in
     let s = none (eqb vol 0) (anyOf (ltb 256 vol ∷ [])) (q .1) in
     let zero-not : vol ≡ 0 → ⊥ = eqb-false vol 0 (s .0) in
@@ -64,6 +68,20 @@ fits vol pers old k g r h =
       old-long = same-long vol old (q .0);
       some = omega arith;
       few = ltb-false 256 vol (last (ltb 256 vol) ∙ s .1);
+    }
+
+pub fits : (vol pers old : ℕ) (k : List ℕ) (g : ℕ) (r : Recovery) → unfitBeside vol pers old k g r ≡ false → FitBeside vol pers old k g r
+unfolding unfitBeside
+fits vol pers old k g r h =
+    let a = none (unfitRows vol pers old) (anyOf (standsFrom k vol ∷ ltb 65535 g ∷ unfitRecovery vol k r ∷ [])) h in
+    let b = none (standsFrom k vol) (anyOf (ltb 65535 g ∷ unfitRecovery vol k r ∷ [])) (a .1) in
+    let d = none (ltb 65535 g) (anyOf (unfitRecovery vol k r ∷ [])) (b .1) in
+    let rows = rows-fit vol pers old (a .0) in
+    record {
+      pers-long = rows .pers-long;
+      old-long = rows .old-long;
+      some = rows .some;
+      few = rows .few;
       marks-in = b .0;
       glb-low = ltb-false 65535 g (d .0);
       recovery-in = last (unfitRecovery vol k r) ∙ d .1;

@@ -24,7 +24,7 @@ use Rattle.dtml.specs.Checks.{unfitRows, phasePast, unfitRecovery, unfit
 use Rattle.dtml.specs.Rules.{CallNames, by-read, by-write, by-flush, WrongLength, pers-differs, old-differs, no-word, above-256, not-64, Names, at-R1, at-W1, at-W2, at-W3, at-W4, at-W5, at-W6, at-W7, RecoveryNames, at-C3, at-C4, at-C5, Unfit, lengths, mark-past, glb-above, loc-above, phase-past, recovery-past, C2-unmarked, NoLine}
 use Rattle.dtml.proofs.Words.{true-or-false, true-not-false, is-idle, idle-is, none-marked}
 use Rattle.dtml.proofs.Asks.{new-fresh, waiting-ready}
-use Rattle.dtml.proofs.Fit.{last, none, FitMemory, memory-fits, tx-fits}
+use Rattle.dtml.proofs.Fit.{last, none, FitRows, rows-fit, FitMemory, memory-fits, tx-fits}
 use Rattle.dtml.proofs.Figure.{all-unmarked}
 
 pub record Tests (b : Bool) (P : Type 0) : Type 0 where
@@ -229,44 +229,22 @@ lengthTests s = anyOf (unfitRows (length (s .mem .vol)) (length (s .mem .pers)) 
 row-not-64 : (s : Store) → not (eqb (length (s .txs)) 64) ≡ true → WrongLength s
 row-not-64 s e = not-64 (eqb-false (length (s .txs)) 64 (not-true _ e))
 
--- a store of the right lengths
-record Long (s : Store) : Type 0 where
-  pers-long : length (s .mem .pers) ≡ size (s .mem)
-  old-long : length (s .mem .old) ≡ size (s .mem)
-  some-word : 0 < size (s .mem)
-  few-words : size (s .mem) ≤ 256
-  txs-long : length (s .txs) ≡ 64
+-- of the right lengths none is wrong
+abbrev RowsOf : Store → Type 0
+RowsOf s = FitRows (length (s .mem .vol)) (length (s .mem .pers)) (length (s .mem .old))
 
-long-right : (s : Store) → Long s → WrongLength s → ⊥
-long-right s l (pers-differs f) = f (l .pers-long)
-long-right s l (old-differs f) = f (l .old-long)
-long-right s l (no-word e) = let z = l .some-word in omega arith
-long-right s l (above-256 h) = let z = l .few-words in omega arith
-long-right s l (not-64 f) = f (l .txs-long)
-
-rows-long : (s : Store) → unfitRows (length (s .mem .vol)) (length (s .mem .pers)) (length (s .mem .old)) ≡ false → length (s .txs) ≡ 64 → Long s
-unfolding unfitRows
-rows-long s h txs =
-    let v = length (s .mem .vol) in
-    let p = length (s .mem .pers) in
-    let o = length (s .mem .old) in
-    let a = none (not (eqb v p)) (anyOf (not (eqb v o) ∷ eqb v 0 ∷ ltb 256 v ∷ [])) h in
-    let b = none (not (eqb v o)) (anyOf (eqb v 0 ∷ ltb 256 v ∷ [])) (a .1) in
-    let c = none (eqb v 0) (anyOf (ltb 256 v ∷ [])) (b .1) in
-    let not-zero : v ≡ 0 → ⊥ = eqb-false v 0 (c .0) in
-    record {
-      pers-long = sym (eqb-true v p (not-false _ (a .0)));
-      old-long = sym (eqb-true v o (not-false _ (b .0)));
-      some-word = omega arith;
-      few-words = ltb-false 256 v (last (ltb 256 v) ∙ c .1);
-      txs-long = txs;
-    }
+long-right : (s : Store) → RowsOf s → length (s .txs) ≡ 64 → WrongLength s → ⊥
+long-right s l e (pers-differs f) = f (l .pers-long)
+long-right s l e (old-differs f) = f (l .old-long)
+long-right s l e (no-word q) = let z = l .some in omega arith
+long-right s l e (above-256 h) = let z = l .few in omega arith
+long-right s l e (not-64 f) = f e
 
 pub wrong-length : (s : Store) → Tests (lengthTests s) (WrongLength s)
 wrong-length s = record {
   holds = λ e. ⊎-elim (long-rows s) (λ f. row-not-64 s (last _ ∙ f)) (some (unfitRows (length (s .mem .vol)) (length (s .mem .pers)) (length (s .mem .old))) (anyOf (not (eqb (length (s .txs)) 64) ∷ [])) e);
   fails = λ e. let a = none (unfitRows (length (s .mem .vol)) (length (s .mem .pers)) (length (s .mem .old))) (anyOf (not (eqb (length (s .txs)) 64) ∷ [])) e in
-      long-right s (rows-long s (a .0) (eqb-true (length (s .txs)) 64 (not-false _ (last (not (eqb (length (s .txs)) 64)) ∙ a .1))));
+      long-right s (rows-fit _ _ _ (a .0)) (eqb-true (length (s .txs)) 64 (not-false _ (last (not (eqb (length (s .txs)) 64)) ∙ a .1)));
 }
 
 -- the rest
@@ -314,8 +292,7 @@ unfit-beside s h = go (some (unfitRows n (length (s .mem .pers)) (length (s .mem
 
 -- of a fit store no condition holds
 fit : (s : Store) → FitMemory (s .mem) (s .rec) → length (s .txs) ≡ 64 → unfitTxs (size (s .mem)) (s .txs) ≡ false → Unfit s → ⊥
-fit s f l ts (lengths w) =
-    long-right s (record { pers-long = f .pers-long; old-long = f .old-long; some-word = f .some; few-words = f .few; txs-long = l }) w
+fit s f l ts (lengths w) = long-right s (record { pers-long = f .pers-long; old-long = f .old-long; some = f .some; few = f .few }) l w
 fit s f l ts (mark-past w h e) = true-not-false e (laws .stands-none (s .mem .marks) (size (s .mem)) w (f .marks-in) h)
 fit s f l ts (glb-above h) = let z = f .glb-low in omega arith
 fit s f l ts (loc-above t h) = let z = tx-fits _ _ (each-fit (size (s .mem)) (s .txs) ts t) .loc-low in omega arith
