@@ -118,11 +118,11 @@ entered-words n w inv = go (inv .mode)
 
 -- the three counts of demand 3 after a call
 pub record Adds (before after : Past) (c : Call) (r : Recovery) (k : List ℕ) (a : Reply) : Type 0 where
-  pub crashes : after .crashes ≡ before .crashes + crashesIn c
+  pub crashes : after .crashes ≡ before .crashes + crashesIn c a
   pub lines : after .lines ≡ before .lines + linesIn c a
-  pub cut : after .cut ≡ before .cut + cutIn c r k
+  pub cut : after .cut ≡ before .cut + cutIn c r k a
 
-same : (p : Past) (c : Call) (r : Recovery) (k : List ℕ) (a : Reply) → crashesIn c ≡ 0 → linesIn c a ≡ 0 → cutIn c r k ≡ 0 → Adds p p c r k a
+same : (p : Past) (c : Call) (r : Recovery) (k : List ℕ) (a : Reply) → crashesIn c a ≡ 0 → linesIn c a ≡ 0 → cutIn c r k a ≡ 0 → Adds p p c r k a
 same p c r k a x y z = record { crashes = omega (arith, x); lines = omega (arith, y); cut = omega (arith, z) }
 
 asked-adds : (p : Past) (l : Phase) (t : ℕ) (q : Ask) (r : Recovery) (k : List ℕ) (a : Reply) → Adds p (noted p l (on t q) a) (on t q) r k a
@@ -155,7 +155,7 @@ tell-adds n w (sys (flush x)) inv low =
     a : Reply
     a = call (w .store) (sys (flush x)) .reply
 tell-adds n w (sys crash) inv low =
-    rw (ap (λ o. o .reply .number) (crashes-now w (never-unfit n w inv low)))
+    rw (crashes-now w (never-unfit n w inv low))
     (record { crashes = refl; lines = omega arith; cut = ap (λ x. w .past .cut + x) (entered-words n w inv) })
 tell-adds n w (sys recover) inv low =
     pick-case (λ p. Adds (w .past) p (sys recover) (w .store .rec) (w .store .mem .marks) a) (leb 9 (a .number))

@@ -17,4 +17,5 @@ pub mod Tests
 pub mod Every
 pub mod Demands
 pub mod Lift
+pub mod Happens
 pub mod Counts

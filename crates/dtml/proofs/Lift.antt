@@ -1,22 +1,23 @@
 -- A call on a whole fit store is the call on what it is handed: the record named, or none. A refusal of the smaller call puts back what it was handed.
 use Prim.Native.Nat.{ℕ, zero, suc, _≤_, _<_}
 use native.Mathlib.Omega.{arith}
-use borrow.Author.Tests.{le-leb, lt-leb, not-false, eqb-true}
+use borrow.Author.Tests.{leb-true, leb-false, le-leb, lt-leb, not-false, eqb-true}
 use mathlib.Core.Path.{_≡_, refl, sym, ap, _∙_}
 use mathlib.Core.Bool.{Bool, true, false, not}
 use mathlib.Core.List.{List, [], _∷_}
-use lib.ListN.{length, getD}
+use lib.ListN.{length, getD, set}
 use lib.Seq.{set-getD}
-use lib.Dec.{eqb}
+use lib.Dec.{eqb, leb}
 use Rattle.bits.specs.Marks.{pick}
 use Rattle.dtml.specs.declared.Tx.{Tx}
 use Rattle.dtml.specs.declared.Phase.the-variants.{Fresh}
 use Rattle.dtml.specs.Table.{says}
 use Rattle.dtml.specs.Store.{Store, store, recordAt, tx, size}
-use Rattle.dtml.specs.Asked.{Ask, Sys, flush, crash, recover, recoverUpTo, on, sys, did, healed, outcome}
+use Rattle.dtml.specs.Asked.{Ask, Sys, flush, crash, recover, recoverUpTo, Call, on, sys, outcome}
 use Rattle.dtml.specs.First.{Check, first, anyOf}
 use Rattle.dtml.specs.Checks.{unfit, unfitMemory, unfitOne, unfitTx, unfitTxs, askChecks, sysChecks}
-use Rattle.dtml.specs.Calls.{ask, system, systemTxs, act, call, refused, placed, settled, callOne, callSystem}
+use Rattle.dtml.specs.Calls.{ask, system, systemTxs, act, call, refused, settled}
+use Rattle.dtml.specs.Handed.{no-turn, a-turn, nothing, callOne, happens, callSystem, turnLeft, eventLeft, carry, slotOf, putBack}
 use Rattle.dtml.proofs.Fit.{none, last, fit-one}
 
 -- what is done with the outcome of a call, done with each of its ways
@@ -66,29 +67,44 @@ one-fit s t h ht =
     let f = store-fits s h in
     fit-one (record { beside = f .beside; own = record-fit (size (s .mem)) (s .txs) t (rw (f .long) ht) (f .records) })
 
--- a call on record t of a fit store
-pub on-record : (s : Store) (t : ℕ) (a : Ask) → unfit s ≡ false → t < 64 → call s (on t a) ≡ placed s t (callOne (s .mem) (s .rec) (recordAt (s .txs) t) a)
-unfolding call callOne act
-on-record s t a h ht =
-    rw (h, lt-leb 64 t ht, one-fit s t h ht)
-    (sym (first-lift (placed s t) (askChecks (size (s .mem)) (s .rec) (recordAt (s .txs) t) a)
-    (λ n. did (says n 0) (s .mem) (recordAt (s .txs) t)) (refused s) (ask (s .mem) (recordAt (s .txs) t) a)
-    (λ n. ap (λ ts. outcome (says n 0) (store (s .mem) (s .rec) ts)) (set-getD (s .txs) t (tx 0 Fresh)))))
+put-same : (s : Store) (i : ℕ) → set (s .txs) i (recordAt (s .txs) i) ≡ s .txs
+put-same s i = set-getD (s .txs) i (tx 0 Fresh)
 
--- a call on no record of a fit store
-settled-lift : (s : Store) (k : Sys)
-    → first (sysChecks (size (s .mem)) (s .rec) k) (refused s) (settled (s .txs) (system (s .mem) (s .rec) k))
-    ≡ settled (s .txs) (first (sysChecks (size (s .mem)) (s .rec) k) (λ n. healed (says n 0) (s .mem) (s .rec)) (system (s .mem) (s .rec) k))
-settled-lift s k =
-    sym (first-lift (settled (s .txs)) (sysChecks (size (s .mem)) (s .rec) k) (λ n. healed (says n 0) (s .mem) (s .rec)) (refused s)
-    (system (s .mem) (s .rec) k) (λ n. refl))
+-- a call on record i of a fit store
+on-record : (s : Store) (i : ℕ) (a : Ask) → unfit s ≡ false → i < 64
+    → call s (on i a) ≡ putBack s (on i a) (carry (s .mem) (s .rec) (recordAt (s .txs) i) (on i a))
+unfolding call callOne carry act
+on-record s i a h small =
+    let t = recordAt (s .txs) i in
+    rw (h, lt-leb 64 i small, one-fit s i h small)
+    (sym (first-lift (λ x. outcome (turnLeft (s .rec) t x .reply) (store (turnLeft (s .rec) t x .mem) (turnLeft (s .rec) t x .rec) (set (s .txs) i (turnLeft (s .rec) t x .tx))))
+    (askChecks (size (s .mem)) (s .rec) t a) (λ n. no-turn (says n 0) (s .mem)) (refused s) (a-turn (ask (s .mem) t a))
+    (λ n. ap (λ ts. outcome (says n 0) (store (s .mem) (s .rec) ts)) (put-same s i))))
 
-pub on-system : (s : Store) (k : Sys) → unfit s ≡ false → call s (sys k) ≡ settled (systemTxs k (s .txs)) (callSystem (s .mem) (s .rec) k)
-unfolding call callSystem act
-on-system s (flush w) h = rw (h, store-fits s h .beside) (settled-lift s (flush w))
-on-system s crash h = rw (h, store-fits s h .beside)
-on-system s recover h = rw (h, store-fits s h .beside) (settled-lift s recover)
-on-system s (recoverUpTo b) h = rw (h, store-fits s h .beside) (settled-lift s (recoverUpTo b))
+-- a call on no record of a fit store, which is not a crash
+on-none : (s : Store) (k : Sys) → systemTxs k (s .txs) ≡ s .txs → systemTxs k (set (s .txs) 0 (recordAt (s .txs) 0)) ≡ s .txs
+    → putBack s (sys k) (eventLeft (s .rec) (recordAt (s .txs) 0) (happens (s .mem) (s .rec) k)) ≡ settled (s .txs) (system (s .mem) (s .rec) k)
+    → unfit s ≡ false → call s (sys k) ≡ putBack s (sys k) (carry (s .mem) (s .rec) (recordAt (s .txs) 0) (sys k))
+unfolding call callSystem carry act
+on-none s k same again done h =
+    let t = recordAt (s .txs) 0 in
+    rw (h, store-fits s h .beside, same, sym done)
+    (sym (first-lift (λ x. putBack s (sys k) (eventLeft (s .rec) t x))
+    (sysChecks (size (s .mem)) (s .rec) k) (λ n. nothing (says n 0) (s .mem)) (refused s) (happens (s .mem) (s .rec) k)
+    (λ n. ap (λ ts. outcome (says n 0) (store (s .mem) (s .rec) ts)) again)))
+
+-- What a call leaves of what it is handed is what the whole call leaves of a fit store: the other records are looked at by no line, and stay but for a crash.
+pub carries : (s : Store) (c : Call) → unfit s ≡ false → call s c ≡ putBack s c (carry (s .mem) (s .rec) (recordAt (s .txs) (slotOf c)) c)
+unfolding call callOne callSystem carry act system
+carries s (on i a) h = go (leb 64 i) refl
+  where
+    go : (b : Bool) → leb 64 i ≡ b → call s (on i a) ≡ putBack s (on i a) (carry (s .mem) (s .rec) (recordAt (s .txs) (slotOf (on i a))) (on i a))
+    go true e = no-record s i a h (leb-true 64 i e) ∙ rw (e, one-fit s 0 h (omega arith), put-same s 0)
+    go false e = on-record s i a h (leb-false 64 i e) ∙ rw e
+carries s (sys (flush w)) h = on-none s (flush w) refl (put-same s 0) (rw (put-same s 0)) h
+carries s (sys crash) h = rw (h, store-fits s h .beside, put-same s 0)
+carries s (sys recover) h = on-none s recover refl (put-same s 0) (rw (put-same s 0)) h
+carries s (sys (recoverUpTo b)) h = on-none s (recoverUpTo b) refl (put-same s 0) (rw (put-same s 0)) h
 
 -- an element is the same whatever stands for those past the end
 pub default-free : (ts : List Tx) (t : ℕ) (d : Tx) → t < length ts → getD ts t d ≡ recordAt ts t

@@ -4,26 +4,14 @@ use Rattle.dtml.specs.declared.Tx.{Tx}
 use Rattle.dtml.specs.declared.Phase.{Phase}
 use Rattle.dtml.specs.declared.Phase.the-variants.{Fresh}
 use Rattle.dtml.specs.declared.Recovery.{Recovery}
+pub use Rattle.dtml.specs.declared.Ask.{Ask}
+pub use Rattle.dtml.specs.declared.Ask.the-variants.{Begin as begin, Read as read, Write as write, Commit as commit, Step as step}
+pub use Rattle.dtml.specs.declared.Sys.{Sys}
+pub use Rattle.dtml.specs.declared.Sys.the-variants.{Flush as flush, Crash as crash, Recover as recover, RecoverUpTo as recoverUpTo}
+pub use Rattle.dtml.specs.declared.Call.{Call}
+pub use Rattle.dtml.specs.declared.Call.the-variants.{On as on, Of as sys}
 use Rattle.dtml.specs.Table.{Reply}
 use Rattle.dtml.specs.Store.{Memory, Store, recordAt}
-
--- what can be asked of a transaction's record, and of the store as a whole
-pub data Ask : Type 0 where
-  begin : Ask
-  read : (word : ℕ) → Ask
-  write : (word value : ℕ) → Ask
-  commit : Ask
-  step : Ask
-
-pub data Sys : Type 0 where
-  flush : (word : ℕ) → Sys
-  crash : Sys
-  recover : Sys
-  recoverUpTo : (allowance : ℕ) → Sys
-
-pub data Call : Type 0 where
-  on : (identifier : ℕ) → Ask → Call
-  sys : Sys → Call
 
 -- where the record stands that a call is on
 abbrev pub standsAt : Store → Call → Phase

@@ -10,10 +10,10 @@ use Rattle.dtml.specs.declared.Recovery.{Recovery}
 use Rattle.dtml.specs.declared.Recovery.the-variants.{Idle, C1, C2, C3, C4, C5, C6}
 use Rattle.dtml.specs.Table.{Reply, says}
 use Rattle.dtml.specs.Store.{Memory, Store, store, size, recordAt, fresh}
-use Rattle.dtml.specs.Asked.{Ask, begin, read, write, commit, step, Sys, flush, crash, recover, recoverUpTo, Call, on, sys, Did, did, Healed, healed, Outcome, outcome}
+use Rattle.dtml.specs.Asked.{Ask, begin, read, write, commit, step, Sys, flush, crash, recover, recoverUpTo, Call, on, sys, Did, Healed, healed, Outcome, outcome}
 use Rattle.dtml.specs.Lines.{to, line, heal, flushWord, recoveryLine, crashMemory, crashTxs}
 use Rattle.dtml.specs.First.{anyOf, _⇒_, first}
-use Rattle.dtml.specs.Checks.{unfitRows, unfitOne, unfitMemory, askChecks, sysChecks, checks}
+use Rattle.dtml.specs.Checks.{unfitRows, checks}
 
 -- ---- what is carried out
 
@@ -79,18 +79,3 @@ makeFresh s =
     (anyOf (unfitRows (length (s .mem .vol)) (length (s .mem .pers)) (length (s .mem .old)) ∷ not (eqb (length (s .txs)) 64) ∷ []) ⇒ 9 ∷ [])
     (refused s)
     (outcome (says 0 0) (fresh (size (s .mem))))
-
--- ---- a call on what it is handed, without the other records
-
--- on one record: the same checks but 11, and of the records only this one is tested for fitness
-unfoldable pub callOne : Memory → Recovery → Tx → Ask → Did
-callOne m r t a =
-    first
-    (unfitOne (length (m .vol)) (length (m .pers)) (length (m .old)) (m .marks) (m .glb) r t ⇒ 9 ∷ askChecks (size m) r t a)
-    (λ n. did (says n 0) m t)
-    (ask m t a)
-
--- on the store as a whole: no record is tested
-unfoldable pub callSystem : Memory → Recovery → Sys → Healed
-callSystem m r k =
-    first (unfitMemory m r ⇒ 9 ∷ sysChecks (size m) r k) (λ n. healed (says n 0) m r) (system m r k)

@@ -5,9 +5,9 @@ pub mod First
 pub mod Lines
 pub mod Checks
 pub mod Calls
+pub mod Handed
 pub mod Figure1
 pub mod Rules
 pub mod History
 pub mod Demands
 pub mod Counting
-pub mod Acts

@@ -47,17 +47,27 @@ pub enum Recovery {
     C6,
 }
 
-// What is asked of the machine; specs/Acts.antt says which call each is.
-pub enum Act {
-    Begin { id: u64 },
-    Read { id: u64, word: u64 },
-    Write { id: u64, word: u64, value: u32 },
-    Commit { id: u64 },
-    Step { id: u64 },
-    Flush { word: u64 },
+// What is asked of a transaction's record.
+pub enum Ask {
+    Begin,
+    Read { word: u32 },
+    Write { word: u32, value: u32 },
+    Commit,
+    Step,
+}
+
+// What is asked of the store and of no record.
+pub enum Sys {
+    Flush { word: u32 },
     Crash,
     Recover,
     RecoverUpTo { allowance: u64 },
+}
+
+// A call: on a record, or on none.
+pub enum Call {
+    On { id: u64, ask: Ask },
+    Of { sys: Sys },
 }
 
 // What a call answers; specs/Table.antt lists the number and the value of each case.
