@@ -1,2 +1,0 @@
--- What the calls' proofs share.
-mod Few
