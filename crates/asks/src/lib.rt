@@ -1,134 +1,64 @@
-// The calls on one transaction's record, by value, that ask for an operation: begin, read, write and commit. A call that is taken puts the record at its first line.
-// Each tests for fitness all that it is handed, the three word rows, the marks, the count, recovery and the record, and answers for all arguments.
+// What is left to check of begin, read, write and commit once what was handed in was found fit and recovery idle. One that is taken puts the record at its first line.
 use dtml::Answer;
 use dtml::Phase;
-use dtml::Recovery;
 use dtml::Tx;
-use marks::Marks;
-use parts::fit::unfit_one;
 use stages::is_new;
 use stages::is_waiting;
-use stages::not_idle;
 use stages::stage;
 use turn::Turn;
 use turn::refused;
 use turn::to;
 ghost use mathlib.Core.Path.{_≡_};
-ghost use Rattle.dtml.specs.Store.{memory};
-ghost use Rattle.dtml.specs.Asked.{Ask};
-ghost use Rattle.dtml.specs.Calls.{callOne};
-ghost use Rattle.turn.specs.Turning.{didOf};
+ghost use lib.Dec.{leb};
+ghost use Rattle.bits.specs.Marks.{pick};
+ghost use Rattle.dtml.specs.Lines.{stage as stageOf};
+ghost use Rattle.dtml.specs.Checks.{isNew, isWaiting};
+ghost use Rattle.turn.specs.Turning.{turnOf};
 
-pub fn begin(
-    vol: &[u32],
-    pers: &[u32],
-    old: &[u32],
-    marks: Marks,
-    glb: u32,
-    recovery: Recovery,
-    tx: Tx,
-) -> Turn
-    ensures { λ r. ⌜ didOf r (memory (now (vol .entry)) (now (pers .entry)) (now (old .entry)) marks glb)
-        ≡ callOne (memory (now (vol .entry)) (now (pers .entry)) (now (old .entry)) marks glb) recovery tx Ask.begin ⌝ }
+pub fn begin(tx: Tx) -> Turn
+    ensures { λ r. ⌜ r ≡ pick (isNew (stageOf (tx .phase))) (turnOf (Answer.Taken 0) (tx .loc) Phase.B1) (Turn.Refused Answer.NotFresh) ⌝ }
 {
-    if unfit_one(vol.len(), pers.len(), old.len(), marks, glb, recovery, tx) {
-        return refused(Answer::Unfit, tx);
-    }
-    if not_idle(recovery) {
-        return refused(Answer::NotIdle, tx);
-    }
     let phase = tx.phase;
-    if !is_new(stage(phase)) {
-        return refused(Answer::NotFresh, tx);
+    if is_new(stage(phase)) {
+        return to(tx.loc, Phase::B1);
     }
-    to(tx.loc, Phase::B1)
+    refused(Answer::NotFresh)
 }
 
-pub fn read(
-    vol: &[u32],
-    pers: &[u32],
-    old: &[u32],
-    marks: Marks,
-    glb: u32,
-    recovery: Recovery,
-    tx: Tx,
-    word: u64,
-) -> Turn
-    ensures { λ r. ⌜ didOf r (memory (now (vol .entry)) (now (pers .entry)) (now (old .entry)) marks glb)
-        ≡ callOne (memory (now (vol .entry)) (now (pers .entry)) (now (old .entry)) marks glb) recovery tx (Ask.read word) ⌝ }
+// A record that is ready goes to this line.
+fn invoke(tx: Tx, line: Phase) -> Turn
+    ensures { λ r. ⌜ r ≡ pick (isWaiting (stageOf (tx .phase))) (turnOf (Answer.Taken 0) (tx .loc) line) (Turn.Refused Answer.NotReady) ⌝ }
 {
-    if unfit_one(vol.len(), pers.len(), old.len(), marks, glb, recovery, tx) {
-        return refused(Answer::Unfit, tx);
-    }
-    let past = vol.len() as u64 <= word;
-    let healing = not_idle(recovery);
-    if past {
-        return refused(Answer::NoWord, tx);
-    }
-    if healing {
-        return refused(Answer::NotIdle, tx);
-    }
     let phase = tx.phase;
-    if !is_waiting(stage(phase)) {
-        return refused(Answer::NotReady, tx);
+    if is_waiting(stage(phase)) {
+        return to(tx.loc, line);
     }
-    let w = word as u32;
-    to(tx.loc, Phase::R1 { word: w })
+    refused(Answer::NotReady)
 }
 
-pub fn write(
-    vol: &[u32],
-    pers: &[u32],
-    old: &[u32],
-    marks: Marks,
-    glb: u32,
-    recovery: Recovery,
-    tx: Tx,
-    word: u64,
-    value: u32,
-) -> Turn
-    ensures { λ r. ⌜ didOf r (memory (now (vol .entry)) (now (pers .entry)) (now (old .entry)) marks glb)
-        ≡ callOne (memory (now (vol .entry)) (now (pers .entry)) (now (old .entry)) marks glb) recovery tx (Ask.write word value) ⌝ }
+// Of rows of n words.
+pub fn read(n: usize, tx: Tx, word: u32) -> Turn
+    ensures { λ r. ⌜ r ≡ pick (leb n word) (Turn.Refused Answer.NoWord)
+        (pick (isWaiting (stageOf (tx .phase))) (turnOf (Answer.Taken 0) (tx .loc) (Phase.R1 word)) (Turn.Refused Answer.NotReady)) ⌝ }
 {
-    if unfit_one(vol.len(), pers.len(), old.len(), marks, glb, recovery, tx) {
-        return refused(Answer::Unfit, tx);
+    if n <= word as usize {
+        return refused(Answer::NoWord);
     }
-    if word >= vol.len() as u64 {
-        return refused(Answer::NoWord, tx);
-    }
-    if not_idle(recovery) {
-        return refused(Answer::NotIdle, tx);
-    }
-    let phase = tx.phase;
-    if !is_waiting(stage(phase)) {
-        return refused(Answer::NotReady, tx);
-    }
-    let w = word as u32;
-    to(tx.loc, Phase::W1 { word: w, value })
+    invoke(tx, Phase::R1 { word })
 }
 
-pub fn commit(
-    vol: &[u32],
-    pers: &[u32],
-    old: &[u32],
-    marks: Marks,
-    glb: u32,
-    recovery: Recovery,
-    tx: Tx,
-) -> Turn
-    ensures { λ r. ⌜ didOf r (memory (now (vol .entry)) (now (pers .entry)) (now (old .entry)) marks glb)
-        ≡ callOne (memory (now (vol .entry)) (now (pers .entry)) (now (old .entry)) marks glb) recovery tx Ask.commit ⌝ }
+pub fn write(n: usize, tx: Tx, word: u32, value: u32) -> Turn
+    ensures { λ r. ⌜ r ≡ pick (leb n word) (Turn.Refused Answer.NoWord)
+        (pick (isWaiting (stageOf (tx .phase))) (turnOf (Answer.Taken 0) (tx .loc) (Phase.W1 word value)) (Turn.Refused Answer.NotReady)) ⌝ }
 {
-    if unfit_one(vol.len(), pers.len(), old.len(), marks, glb, recovery, tx) {
-        return refused(Answer::Unfit, tx);
+    if n <= word as usize {
+        return refused(Answer::NoWord);
     }
-    if not_idle(recovery) {
-        return refused(Answer::NotIdle, tx);
-    }
-    let phase = tx.phase;
-    let ready = is_waiting(stage(phase));
-    if !ready {
-        return refused(Answer::NotReady, tx);
-    }
-    to(tx.loc, Phase::E1)
+    invoke(tx, Phase::W1 { word, value })
+}
+
+pub fn commit(tx: Tx) -> Turn
+    ensures { λ r. ⌜ r ≡ pick (isWaiting (stageOf (tx .phase))) (turnOf (Answer.Taken 0) (tx .loc) Phase.E1) (Turn.Refused Answer.NotReady) ⌝ }
+{
+    invoke(tx, Phase::E1)
 }

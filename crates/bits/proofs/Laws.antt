@@ -1,8 +1,8 @@
 -- The marks' laws, for a row of any length. A mark is one digit of one number, so an operation on it is `put` there and `set` in the row;
 -- the count, the lowest mark and what stands from a word on go by induction on the row: word w of a longer row is digit w of its first number, or word w - 64 of the rest.
-use Prim.Native.Nat.{ℕ, zero, suc, _+_, _-_, _/_, _%_, _^_, _≤_, _<_}
+use Prim.Native.Nat.{ℕ, zero, suc, _+_, _-_, _*_, _/_, _%_, _^_, _≤_, _<_}
 use mathlib.Core.Path.{_≡_, refl, sym, ap, _∙_}
-use mathlib.Core.Bool.{Bool, true, false}
+use mathlib.Core.Bool.{Bool, true, false, not}
 use mathlib.Core.Logic.{_⊎_, inl, inr, ⊎-elim}
 use mathlib.Core.List.{List, [], _∷_}
 use native.Mathlib.Omega.{arith}
@@ -13,7 +13,7 @@ use lib.ListN.{length, getD, set, length-set, List·getD-eq-default}
 use lib.Seq.{set-out, getD-set-same, getD-set-other}
 use Rattle.bits.specs.Marks.{pick, digit, put, isMarked, withMark, markOf, unmarkOf, clearOf, countOf, lowestOf, standsFrom}
 use Rattle.bits.specs.Laws.{room, MarkLaws}
-use Rattle.bits.proofs.Digits.{digit-lt, digit-of-zero, digit-put-same, digit-put-other, ones-of-zero, ones-width, ones-put, ones-none, trailing-one, trailing-zero, trailing-none, high-digit, digit-high}
+use Rattle.bits.proofs.Digits.{digit-lt, digit-of-zero, digit-put-same, digit-put-other, ones-of-zero, ones-width, ones-put, ones-none, trailing-one, trailing-zero, trailing-none, high-digit, digit-high, none-past}
 
 -- ---- two numbers compared
 
@@ -239,6 +239,10 @@ lowest-least (x ∷ xs) w h =
 
 -- ---- the marks at a word or above
 
+pick-not : (t : Bool) → pick t false true ≡ not t
+pick-not true = refl
+pick-not false = refl
+
 stands-none : (m : List ℕ) (n w : ℕ) → standsFrom m n ≡ false → n ≤ w → isMarked m w ≡ false
 unfolding standsFrom
 stands-none [] n w e l = past-unmarked [] w (omega arith)
@@ -259,6 +263,27 @@ none-stands [] n h = refl
 none-stands (x ∷ xs) n h =
     let high : x % 2 ^ 64 / 2 ^ n ≡ 0 = digit-high 64 n x (λ k l g. unmarked-digit x k (sym (here x xs k g) ∙ h k l)) in
     rw high (none-stands xs (n - 64) (λ w l. sym (there x xs (64 + w) w refl) ∙ h (64 + w) (omega arith)))
+
+-- a row has no word to stand from past its end
+pub past-stands : (m : List ℕ) (n : ℕ) → room m ≤ n → standsFrom m n ≡ false
+past-stands m n h = none-stands m n (λ w l. past-unmarked m w (omega arith))
+
+-- no digit of a number is at a word past it
+stands-there : (x : ℕ) (xs : List ℕ) (n : ℕ) → 64 ≤ n → standsFrom (x ∷ xs) n ≡ standsFrom xs (n - 64)
+unfolding standsFrom
+stands-there x xs n h = rw (none-past 64 (x % 2 ^ 64) n (omega arith) h)
+
+-- from a word of the last number on, that number alone says it
+pub stands-last : (m : List ℕ) (i n : ℕ) → length m ≡ suc i → 64 * i ≤ n → standsFrom m n ≡ not (eqb (getD m i 0 % 2 ^ 64 / 2 ^ (n - 64 * i)) 0)
+unfolding standsFrom
+stands-last [] i n e h = absurd (omega arith)
+stands-last (x ∷ []) zero n e h =
+    let here : n - 64 * 0 ≡ n = omega arith in
+    rw here (pick-not (eqb (x % 2 ^ 64 / 2 ^ n) 0))
+stands-last (x ∷ y ∷ ys) zero n e h = absurd (omega arith)
+stands-last (x ∷ xs) (suc i) n e h =
+    let rest : n - 64 * suc i ≡ n - 64 - 64 * i = omega arith in
+    rw rest (stands-there x xs n (omega arith) ∙ stands-last xs i (n - 64) (omega arith) (omega arith))
 
 pub laws : MarkLaws
 laws = record {

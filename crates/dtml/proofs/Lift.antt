@@ -9,15 +9,17 @@ use lib.ListN.{length, getD, set}
 use lib.Seq.{set-getD}
 use lib.Dec.{eqb, leb}
 use Rattle.bits.specs.Marks.{pick}
+use Rattle.dtml.specs.declared.Recovery.{Recovery}
 use Rattle.dtml.specs.declared.Tx.{Tx}
 use Rattle.dtml.specs.declared.Phase.the-variants.{Fresh}
 use Rattle.dtml.specs.Table.{says}
-use Rattle.dtml.specs.Store.{Store, store, recordAt, tx, size}
-use Rattle.dtml.specs.Asked.{Ask, Sys, flush, crash, recover, recoverUpTo, Call, on, sys, outcome}
-use Rattle.dtml.specs.First.{Check, first, anyOf}
+use Rattle.dtml.specs.Store.{Memory, Store, store, recordAt, tx, size}
+use Rattle.dtml.specs.Asked.{Ask, Sys, flush, crash, recover, recoverUpTo, Call, on, sys, Outcome, outcome}
+use Rattle.dtml.specs.First.{Check, _⇒_, first, anyOf}
 use Rattle.dtml.specs.Checks.{unfit, unfitMemory, unfitOne, unfitTx, unfitTxs, askChecks, sysChecks}
 use Rattle.dtml.specs.Calls.{ask, system, systemTxs, act, call, refused, settled}
-use Rattle.dtml.specs.Handed.{no-turn, a-turn, nothing, callOne, happens, callSystem, turnLeft, eventLeft, carry, slotOf, putBack}
+use Rattle.dtml.specs.Handed.{no-turn, a-turn, Happened, nothing, callOne, happens, callSystem, turnLeft, eventLeft, carry, slotOf, isCrash, putBack}
+use Rattle.dtml.proofs.Words.{pick-case}
 use Rattle.dtml.proofs.Fit.{none, last, fit-one}
 
 -- what is done with the outcome of a call, done with each of its ways
@@ -81,30 +83,44 @@ on-record s i a h small =
     (askChecks (size (s .mem)) (s .rec) t a) (λ n. no-turn (says n 0) (s .mem)) (refused s) (a-turn (ask (s .mem) t a))
     (λ n. ap (λ ts. outcome (says n 0) (store (s .mem) (s .rec) ts)) (put-same s i))))
 
+no-crash : (m : Memory) (r : Recovery) (k : Sys) → isCrash (happens m r k) ≡ false → isCrash (callSystem m r k) ≡ false
+unfolding callSystem
+no-crash m r k e =
+    first-lift isCrash (unfitMemory m r ⇒ 9 ∷ sysChecks (size m) r k) (λ n. nothing (says n 0) m) (λ n. false) (happens m r k) (λ n. refl)
+    ∙ rw e (always (unfitMemory m r ⇒ 9 ∷ sysChecks (size m) r k))
+  where
+    always : (cs : List Check) → first cs (λ n. false) false ≡ false
+    always [] = refl
+    always (c ∷ cs) = pick-case (λ x. x ≡ false) (c .applies) (λ e. refl) (λ e. always cs)
+
+-- the store after a call on no record that left this, and was no crash
+left-of : Store → Happened → Outcome
+left-of s x =
+    let l = eventLeft (s .rec) (recordAt (s .txs) 0) x in
+    outcome (l .reply) (store (l .mem) (l .rec) (set (s .txs) 0 (l .tx)))
+
 -- a call on no record of a fit store, which is not a crash
-on-none : (s : Store) (k : Sys) → systemTxs k (s .txs) ≡ s .txs → systemTxs k (set (s .txs) 0 (recordAt (s .txs) 0)) ≡ s .txs
-    → putBack s (sys k) (eventLeft (s .rec) (recordAt (s .txs) 0) (happens (s .mem) (s .rec) k)) ≡ settled (s .txs) (system (s .mem) (s .rec) k)
+on-none : (s : Store) (k : Sys) → systemTxs k (s .txs) ≡ s .txs → isCrash (callSystem (s .mem) (s .rec) k) ≡ false
+    → left-of s (happens (s .mem) (s .rec) k) ≡ settled (s .txs) (system (s .mem) (s .rec) k)
     → unfit s ≡ false → call s (sys k) ≡ putBack s (sys k) (carry (s .mem) (s .rec) (recordAt (s .txs) 0) (sys k))
-unfolding call callSystem carry act
-on-none s k same again done h =
-    let t = recordAt (s .txs) 0 in
-    rw (h, store-fits s h .beside, same, sym done)
-    (sym (first-lift (λ x. putBack s (sys k) (eventLeft (s .rec) t x))
-    (sysChecks (size (s .mem)) (s .rec) k) (λ n. nothing (says n 0) (s .mem)) (refused s) (happens (s .mem) (s .rec) k)
-    (λ n. ap (λ ts. outcome (says n 0) (store (s .mem) (s .rec) ts)) again)))
+unfolding call callSystem carry act left-of
+on-none s k same none done h =
+    rw (none, h, store-fits s h .beside, same, sym done)
+    (sym (first-lift (left-of s) (sysChecks (size (s .mem)) (s .rec) k) (λ n. nothing (says n 0) (s .mem)) (refused s) (happens (s .mem) (s .rec) k)
+    (λ n. ap (λ ts. outcome (says n 0) (store (s .mem) (s .rec) ts)) (put-same s 0))))
 
 -- What a call leaves of what it is handed is what the whole call leaves of a fit store: the other records are looked at by no line, and stay but for a crash.
 pub carries : (s : Store) (c : Call) → unfit s ≡ false → call s c ≡ putBack s c (carry (s .mem) (s .rec) (recordAt (s .txs) (slotOf c)) c)
-unfolding call callOne callSystem carry act system
+unfolding call callOne callSystem carry act system left-of
 carries s (on i a) h = go (leb 64 i) refl
   where
     go : (b : Bool) → leb 64 i ≡ b → call s (on i a) ≡ putBack s (on i a) (carry (s .mem) (s .rec) (recordAt (s .txs) (slotOf (on i a))) (on i a))
     go true e = no-record s i a h (leb-true 64 i e) ∙ rw (e, one-fit s 0 h (omega arith), put-same s 0)
     go false e = on-record s i a h (leb-false 64 i e) ∙ rw e
-carries s (sys (flush w)) h = on-none s (flush w) refl (put-same s 0) (rw (put-same s 0)) h
+carries s (sys (flush w)) h = on-none s (flush w) refl (no-crash (s .mem) (s .rec) (flush w) refl) (rw (put-same s 0)) h
 carries s (sys crash) h = rw (h, store-fits s h .beside, put-same s 0)
-carries s (sys recover) h = on-none s recover refl (put-same s 0) (rw (put-same s 0)) h
-carries s (sys (recoverUpTo b)) h = on-none s (recoverUpTo b) refl (put-same s 0) (rw (put-same s 0)) h
+carries s (sys recover) h = on-none s recover refl (no-crash (s .mem) (s .rec) recover refl) (rw (put-same s 0)) h
+carries s (sys (recoverUpTo b)) h = on-none s (recoverUpTo b) refl (no-crash (s .mem) (s .rec) (recoverUpTo b) refl) (rw (put-same s 0)) h
 
 -- an element is the same whatever stands for those past the end
 pub default-free : (ts : List Tx) (t : ℕ) (d : Tx) → t < length ts → getD ts t d ≡ recordAt ts t

@@ -23,26 +23,51 @@ use Rattle.dtml.specs.Lines.{stage}
 unfoldable pub unfitRows : ℕ → ℕ → ℕ → Bool
 unfitRows vol pers old = anyOf (not (eqb vol pers) ∷ not (eqb vol old) ∷ eqb vol 0 ∷ ltb 256 vol ∷ [])
 
+-- a phase names a word
+abbrev pub namesWord : Phase → Bool
+namesWord Fresh = false
+namesWord Ready = false
+namesWord Committed = false
+namesWord Aborted = false
+namesWord B1 = false
+namesWord B2 = false
+namesWord (R1 w) = true
+namesWord (R2 v) = false
+namesWord (W1 w v) = true
+namesWord (W2 w v) = true
+namesWord (W3 w v) = true
+namesWord (W4 w v) = true
+namesWord (W5 w v) = true
+namesWord (W6 w v) = true
+namesWord (W7 w) = true
+namesWord E1 = false
+namesWord E2 = false
+namesWord E3 = false
+
+-- the word that it names, or 0
+abbrev pub wordOf : Phase → ℕ
+wordOf Fresh = 0
+wordOf Ready = 0
+wordOf Committed = 0
+wordOf Aborted = 0
+wordOf B1 = 0
+wordOf B2 = 0
+wordOf (R1 w) = w
+wordOf (R2 v) = 0
+wordOf (W1 w v) = w
+wordOf (W2 w v) = w
+wordOf (W3 w v) = w
+wordOf (W4 w v) = w
+wordOf (W5 w v) = w
+wordOf (W6 w v) = w
+wordOf (W7 w) = w
+wordOf E1 = 0
+wordOf E2 = 0
+wordOf E3 = 0
+
 -- a phase names a word at N or above
 abbrev pub phasePast : ℕ → Phase → Bool
-phasePast n Fresh = false
-phasePast n Ready = false
-phasePast n Committed = false
-phasePast n Aborted = false
-phasePast n B1 = false
-phasePast n B2 = false
-phasePast n (R1 w) = leb n w
-phasePast n (R2 v) = false
-phasePast n (W1 w v) = leb n w
-phasePast n (W2 w v) = leb n w
-phasePast n (W3 w v) = leb n w
-phasePast n (W4 w v) = leb n w
-phasePast n (W5 w v) = leb n w
-phasePast n (W6 w v) = leb n w
-phasePast n (W7 w) = leb n w
-phasePast n E1 = false
-phasePast n E2 = false
-phasePast n E3 = false
+phasePast n p = pick (namesWord p) (leb n (wordOf p)) false
 
 -- recovery names a word at N or above, or is at C2 with no mark
 abbrev pub unfitRecovery : ℕ → List ℕ → Recovery → Bool

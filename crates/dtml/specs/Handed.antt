@@ -1,5 +1,6 @@
 -- A call on what it is handed, without the other records: the code of a call equals this, and what it leaves of a fit store is what the whole call leaves.
 use Prim.Native.Nat.{ℕ}
+use mathlib.Core.Bool.{Bool, true, false}
 use mathlib.Core.List.{List, _∷_}
 use lib.ListN.{length, set}
 use lib.Dec.{leb}
@@ -10,10 +11,10 @@ use Rattle.dtml.specs.declared.Recovery.the-variants.{C1}
 use Rattle.dtml.specs.Table.{Reply, says}
 use Rattle.dtml.specs.Store.{Memory, Store, store, size}
 use Rattle.dtml.specs.Asked.{Ask, Sys, flush, crash, recover, recoverUpTo, Call, on, sys, Did, Healed, Outcome, outcome}
-use Rattle.dtml.specs.Lines.{flushWord, recoveryLine, crashMemory}
+use Rattle.dtml.specs.Lines.{flushWord, recoveryLine, crashMemory, crashTxs}
 use Rattle.dtml.specs.First.{_⇒_, first}
 use Rattle.dtml.specs.Checks.{unfitOne, unfitMemory, askChecks, sysChecks}
-use Rattle.dtml.specs.Calls.{ask, upTo, systemTxs}
+use Rattle.dtml.specs.Calls.{ask, upTo}
 
 -- ---- what is left of it, by what was changed
 
@@ -80,10 +81,20 @@ abbrev pub slotOf : Call → ℕ
 slotOf (on i a) = pick (leb 64 i) 0 i
 slotOf (sys k) = 0
 
-abbrev pub callTxs : Call → List Tx → List Tx
-callTxs (on i a) ts = ts
-callTxs (sys k) ts = systemTxs k ts
+-- only a crash reaches the other records
+abbrev pub isCrash : Happened → Bool
+isCrash (nothing a m) = false
+isCrash (a-flush m) = false
+isCrash (a-crash m) = true
+isCrash (some-lines k h) = false
+
+abbrev pub crashed : Memory → Recovery → Call → Bool
+crashed m r (on i a) = false
+crashed m r (sys k) = isCrash (callSystem m r k)
 
 -- the whole store with what is left put back
+abbrev pub reach : Bool → List Tx → List Tx
+reach b ts = pick b (crashTxs ts) ts
+
 abbrev pub putBack : Store → Call → Left → Outcome
-putBack s c l = outcome (l .reply) (store (l .mem) (l .rec) (callTxs c (set (s .txs) (slotOf c) (l .tx))))
+putBack s c l = outcome (l .reply) (store (l .mem) (l .rec) (reach (crashed (s .mem) (s .rec) c) (set (s .txs) (slotOf c) (l .tx))))

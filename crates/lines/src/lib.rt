@@ -1,46 +1,98 @@
-// The step on one transaction's record, by value: the one line at which it stands. It tests for fitness all that it is handed, the three word rows,
-// the marks, the count, recovery and the record, and answers for all arguments.
+// Any call on one transaction's record, by value: begin, read, write, commit, or a step, which is the one line at which it stands. It tests for fitness all that it
+// is handed, the three word rows, the marks, the count, recovery and the record, and answers for all arguments.
 mod transaction;
 
 use crate::transaction::line;
 use dtml::Answer;
+use dtml::Ask;
 use dtml::Recovery;
 use dtml::Tx;
 use marks::Marks;
+use parts::fit::unfit_idle;
 use parts::fit::unfit_one;
-use stages::is_at_line;
+use parts::fit::unfit_tx;
 use stages::not_idle;
-use stages::stage;
 use turn::Turn;
 use turn::refused;
 ghost use mathlib.Core.Path.{_≡_};
+ghost use lib.Dec.{leb};
 ghost use Rattle.dtml.specs.Store.{memory};
-ghost use Rattle.dtml.specs.Asked.{Ask};
-ghost use Rattle.dtml.specs.Calls.{callOne};
-ghost use Rattle.turn.specs.Turning.{didOf};
+ghost use Rattle.dtml.specs.Checks.{unfitOne};
+ghost use Rattle.dtml.specs.Handed.{callOne};
+ghost use Rattle.turn.specs.Turning.{turnedOf};
+ghost use Rattle.lines.specs.Stepping.{askPast, refusalOf};
 
-pub fn step(
+// The call names a word at n or above.
+fn past(n: usize, ask: Ask) -> bool
+    ensures { λ r. ⌜ r ≡ askPast n ask ⌝ }
+{
+    match ask {
+        Ask::Begin => false,
+        Ask::Read { word } => n <= word as usize,
+        Ask::Write { word, value: _ } => n <= word as usize,
+        Ask::Commit => false,
+        Ask::Step => false,
+    }
+}
+
+// Any call while recovery is under way is refused; vol, pers and old are the lengths of the three word rows.
+fn while_recovering(
+    vol: usize,
+    pers: usize,
+    old: usize,
+    marks: &Marks,
+    glb: u32,
+    recovery: Recovery,
+    id: u64,
+    tx: Tx,
+    ask: Ask,
+) -> Turn
+    ensures { λ r. ⌜ r ≡ Turn.Refused (refusalOf (unfitOne vol pers old (now (marks .entry)) glb recovery tx) (leb 64 id) (askPast vol ask)) ⌝ }
+{
+    if unfit_one(vol, pers, old, marks, glb, recovery, tx) {
+        return refused(Answer::Unfit);
+    }
+    if 64 <= id {
+        return refused(Answer::NoRecord);
+    }
+    if past(vol, ask) {
+        return refused(Answer::NoWord);
+    }
+    refused(Answer::NotIdle)
+}
+
+// A call on the record of identifier id; where there is none, tx is any record.
+pub fn call_one(
     vol: &mut [u32],
     pers: &mut [u32],
     old: &mut [u32],
     marks: &mut Marks,
     glb: &mut u32,
     recovery: Recovery,
+    id: u64,
     tx: Tx,
+    ask: Ask,
 ) -> Turn
-    ensures { λ r. ⌜ didOf r (memory (now (vol .exit)) (now (pers .exit)) (now (old .exit)) (now (marks .exit)) (now (glb .exit)))
-        ≡ callOne (memory (now (vol .entry)) (now (pers .entry)) (now (old .entry)) (now (marks .entry)) (now (glb .entry))) recovery tx Ask.step ⌝ }
+    ensures { λ r. ⌜ turnedOf r (memory (now (vol .exit)) (now (pers .exit)) (now (old .exit)) (now (marks .exit)) (now (glb .exit)))
+        ≡ callOne (memory (now (vol .entry)) (now (pers .entry)) (now (old .entry)) (now (marks .entry)) (now (glb .entry))) recovery tx id ask ⌝ }
 {
-    let recovering = not_idle(recovery);
-    if unfit_one(vol.len(), pers.len(), old.len(), *marks, *glb, recovery, tx) {
-        return refused(Answer::Unfit, tx);
+    if not_idle(recovery) {
+        return while_recovering(vol.len(), pers.len(), old.len(), &*marks, *glb, recovery, id, tx, ask);
     }
-    if recovering {
-        return refused(Answer::NotIdle, tx);
+    if unfit_idle(vol.len(), pers.len(), old.len(), &*marks, *glb) {
+        return refused(Answer::Unfit);
     }
-    let phase = tx.phase;
-    if !is_at_line(stage(phase)) {
-        return refused(Answer::NoLine, tx);
+    if unfit_tx(vol.len(), tx) {
+        return refused(Answer::Unfit);
     }
-    line(vol, pers, old, marks, glb, tx)
+    if 64 <= id {
+        return refused(Answer::NoRecord);
+    }
+    match ask {
+        Ask::Begin => asks::begin(tx),
+        Ask::Read { word } => asks::read(vol.len(), tx, word),
+        Ask::Write { word, value } => asks::write(vol.len(), tx, word, value),
+        Ask::Commit => asks::commit(tx),
+        Ask::Step => line(vol, pers, old, marks, glb, tx),
+    }
 }

@@ -6,6 +6,7 @@ use marks::Marks;
 use parts::words::flush_word;
 use turn::Turn;
 use turn::answered;
+use turn::refused;
 use turn::to;
 ghost use mathlib.Core.Path.{_≡_};
 ghost use Prim.Native.Nat.{_+_, _<_, _≤_};
@@ -13,9 +14,10 @@ ghost use lib.ListN.{length, getD, set};
 ghost use lib.Dec.{eqb};
 ghost use Rattle.bits.specs.Marks.{pick, isMarked, markOf, clearOf};
 ghost use Rattle.dtml.specs.Store.{memory};
-ghost use Rattle.dtml.specs.Lines.{even, flushOf, line as lineOf};
-ghost use Rattle.turn.specs.Turning.{turnOf, didOf};
+ghost use Rattle.dtml.specs.Lines.{even, flushOf};
+ghost use Rattle.turn.specs.Turning.{turnOf, turnedOf};
 ghost use Rattle.lines.specs.Room.{Room};
+ghost use Rattle.lines.specs.Stepping.{stepOf};
 
 fn b2(loc: u32) -> Turn
     ensures { λ r. ⌜ r ≡ pick (even loc) (turnOf Answer.Begun loc Phase.Ready) (turnOf (Answer.Taken 0) loc Phase.B1) ⌝ }
@@ -68,8 +70,8 @@ fn w2(glb: &mut u32, loc: u32, word: u32, value: u32) -> Turn
     }
 }
 
-fn w4(marks: Marks, loc: u32, word: u32, value: u32) -> Turn
-    ensures { λ r. ⌜ r ≡ pick (isMarked marks word) (turnOf (Answer.Taken 0) loc (Phase.W6 word value)) (turnOf (Answer.Taken 0) loc (Phase.W5 word value)) ⌝ }
+fn w4(marks: &Marks, loc: u32, word: u32, value: u32) -> Turn
+    ensures { λ r. ⌜ r ≡ pick (isMarked (now (marks .entry)) word) (turnOf (Answer.Taken 0) loc (Phase.W6 word value)) (turnOf (Answer.Taken 0) loc (Phase.W5 word value)) ⌝ }
 {
     if marks::is_marked(marks, word as u64) {
         to(loc, Phase::W6 { word, value })
@@ -87,7 +89,7 @@ fn w5(vol: &[u32], old: &mut [u32], marks: &mut Marks, loc: u32, word: u32, valu
 {
     let i = word as usize;
     old[i] = vol[i];
-    *marks = marks::mark(*marks, word as u64);
+    marks::mark(marks, word as u64);
     to(loc, Phase::W6 { word, value })
 }
 
@@ -120,7 +122,7 @@ fn e1(loc: u32) -> Turn
 fn e2(marks: &mut Marks, loc: u32) -> Turn
     ensures { λ r. ⌜ (r ≡ turnOf (Answer.Taken 0) loc Phase.E3) × (now (marks .exit) ≡ clearOf (now (marks .entry))) ⌝ }
 {
-    *marks = marks::clear(*marks);
+    marks::clear(marks);
     to(loc, Phase::E3)
 }
 
@@ -132,7 +134,7 @@ fn e3(glb: &mut u32, loc: u32) -> Turn
     answered(Answer::Committed, loc, Phase::Committed)
 }
 
-// One line, the one at which the record stands.
+// One line, the one at which the record stands; at 15 there is none.
 pub(crate) fn line(
     vol: &mut [u32],
     pers: &mut [u32],
@@ -142,16 +144,16 @@ pub(crate) fn line(
     tx: Tx,
 ) -> Turn
     requires { ⌜ Room (now vol) (now pers) (now old) (now glb) tx ⌝ }
-    ensures { λ r. ⌜ didOf r (memory (now (vol .exit)) (now (pers .exit)) (now (old .exit)) (now (marks .exit)) (now (glb .exit)))
-        ≡ lineOf (memory (now (vol .entry)) (now (pers .entry)) (now (old .entry)) (now (marks .entry)) (now (glb .entry))) tx ⌝ }
+    ensures { λ r. ⌜ turnedOf r (memory (now (vol .exit)) (now (pers .exit)) (now (old .exit)) (now (marks .exit)) (now (glb .exit)))
+        ≡ stepOf (memory (now (vol .entry)) (now (pers .entry)) (now (old .entry)) (now (marks .entry)) (now (glb .entry))) tx ⌝ }
 {
     let loc = tx.loc;
     let phase = tx.phase;
     match phase {
-        Phase::Fresh => to(loc, Phase::Fresh),
-        Phase::Ready => to(loc, Phase::Ready),
-        Phase::Committed => to(loc, Phase::Committed),
-        Phase::Aborted => to(loc, Phase::Aborted),
+        Phase::Fresh => refused(Answer::NoLine),
+        Phase::Ready => refused(Answer::NoLine),
+        Phase::Committed => refused(Answer::NoLine),
+        Phase::Aborted => refused(Answer::NoLine),
         Phase::B1 => to(*glb, Phase::B2),
         Phase::B2 => b2(loc),
         Phase::R1 { word } => r1(&*vol, loc, word),
@@ -159,7 +161,7 @@ pub(crate) fn line(
         Phase::W1 { word, value } => w1(loc, word, value),
         Phase::W2 { word, value } => w2(glb, loc, word, value),
         Phase::W3 { word, value } => to(loc + 1, Phase::W4 { word, value }),
-        Phase::W4 { word, value } => w4(*marks, loc, word, value),
+        Phase::W4 { word, value } => w4(&*marks, loc, word, value),
         Phase::W5 { word, value } => w5(&*vol, old, marks, loc, word, value),
         Phase::W6 { word, value } => w6(vol, loc, word, value),
         Phase::W7 { word } => w7(&*vol, pers, loc, word),

@@ -1,6 +1,6 @@
 -- What the code's steps through a row of 64-bit numbers rest on: each number is below 2 ^ 64, and a fact on the row from number i on is one on number i and the row from i + 1 on.
 use Prim.Native.Nat.{ℕ, zero, suc, _+_, _-_, _/_, _^_, _≤_, _<_}
-use mathlib.Core.Path.{_≡_, refl, ap}
+use mathlib.Core.Path.{_≡_, refl}
 use mathlib.Core.Bool.{true}
 use mathlib.Core.List.{List, [], _∷_}
 use native.Mathlib.Nat.{mod-eq-of-lt}
@@ -10,7 +10,7 @@ use borrow.Kind.Array.{eInt}
 use denote.Array.{each}
 use denote.Shadow.{shadow}
 use lib.Count.{ones, trailingZeros}
-use lib.ListN.{length, getD, drop, replicate}
+use lib.ListN.{length, getD, set, drop}
 use lib.Seq.{drop-cons}
 use mir.Syntax.{w64}
 use mir.Val.{Val}
@@ -26,10 +26,15 @@ number-fits (x ∷ xs) [] s i = absurd s
 number-fits (x ∷ xs) (u ∷ us) s zero = omega arith
 number-fits (x ∷ xs) (u ∷ us) s (suc i) = number-fits xs us (s .1) i
 
-pub clear-zeros : (m : List ℕ) → clearOf m ≡ replicate (length m) 0
+-- the four numbers set to 0
+pub clear-four : (m : List ℕ) → length m ≡ 4 → set (set (set (set m 0 0) 1 0) 2 0) 3 0 ≡ clearOf m
 unfolding clearOf
-clear-zeros [] = refl
-clear-zeros (x ∷ xs) = ap (λ (r : List ℕ). 0 ∷ r) (clear-zeros xs)
+clear-four [] h = absurd (omega arith)
+clear-four (a ∷ []) h = absurd (omega arith)
+clear-four (a ∷ b ∷ []) h = absurd (omega arith)
+clear-four (a ∷ b ∷ c ∷ []) h = absurd (omega arith)
+clear-four (a ∷ b ∷ c ∷ d ∷ []) h = refl
+clear-four (a ∷ b ∷ c ∷ d ∷ e ∷ m) h = absurd (omega arith)
 
 pub count-next : (m : List ℕ) (i : ℕ) → i < length m → getD m i 0 < 2 ^ 64 → countOf (drop i m) ≡ ones (getD m i 0) + countOf (drop (suc i) m)
 unfolding countOf

@@ -1,41 +1,51 @@
-// Which words are in the log: one mark bit for each word, in four 64-bit numbers by value.
+// Which words are in the log: one mark bit for each word, in four 64-bit numbers, which go by reference.
 // Word w has bit `w % 64` of number `w / 64`. A word of 256 or more is never marked, and marking it changes nothing.
 ghost use mathlib.Core.Path.{_≡_};
+ghost use Prim.Native.Nat.{ℕ, _<_, _^_};
+ghost use lib.ListN.{length, getD};
 ghost use Rattle.bits.specs.Marks.{isMarked, markOf, unmarkOf, clearOf, countOf, lowestOf, standsFrom};
 
 pub type Marks = [u64; 4];
 
-pub fn mark(m: Marks, w: u64) -> Marks
-    ensures { λ r. ⌜ r ≡ markOf m w ⌝ }
+// What the type of marks tells, four numbers of 64 bits, for those that have a reference to them. It does nothing, so no copy is made for it.
+fn four(m: Marks)
+    ensures { λ _. ⌜ (length m ≡ 4) × ((i : ℕ) → getD m i 0 < 2 ^ 64) ⌝ }
+{}
+
+pub fn mark(m: &mut Marks, w: u64)
+    ensures { λ _. ⌜ now (m .exit) ≡ markOf (now (m .entry)) w ⌝ }
 {
-    let mut next = m;
+    four(*m);
     if w < 256 {
         let i = (w / 64) as usize;
-        next[i] = m[i] | (1u64 << (w % 64));
+        m[i] = m[i] | (1u64 << (w % 64));
     }
-    next
 }
 
-pub fn unmark(m: Marks, w: u64) -> Marks
-    ensures { λ r. ⌜ r ≡ unmarkOf m w ⌝ }
+pub fn unmark(m: &mut Marks, w: u64)
+    ensures { λ _. ⌜ now (m .exit) ≡ unmarkOf (now (m .entry)) w ⌝ }
 {
-    let mut next = m;
+    four(*m);
     if w < 256 {
         let i = (w / 64) as usize;
-        next[i] = m[i] & !(1u64 << (w % 64));
+        m[i] = m[i] & !(1u64 << (w % 64));
     }
-    next
 }
 
-pub fn clear(m: Marks) -> Marks
-    ensures { λ r. ⌜ r ≡ clearOf m ⌝ }
+pub fn clear(m: &mut Marks)
+    ensures { λ _. ⌜ now (m .exit) ≡ clearOf (now (m .entry)) ⌝ }
 {
-    [0u64; 4]
+    four(*m);
+    m[0] = 0;
+    m[1] = 0;
+    m[2] = 0;
+    m[3] = 0;
 }
 
-pub fn is_marked(m: Marks, w: u64) -> bool
-    ensures { λ r. ⌜ r ≡ isMarked m w ⌝ }
+pub fn is_marked(m: &Marks, w: u64) -> bool
+    ensures { λ r. ⌜ r ≡ isMarked (now (m .entry)) w ⌝ }
 {
+    four(*m);
     if 256 <= w {
         return false;
     }
@@ -44,9 +54,10 @@ pub fn is_marked(m: Marks, w: u64) -> bool
 }
 
 // How many words are marked.
-pub fn count(m: Marks) -> u64
-    ensures { λ r. ⌜ r ≡ countOf m ⌝ }
+pub fn count(m: &Marks) -> u64
+    ensures { λ r. ⌜ r ≡ countOf (now (m .entry)) ⌝ }
 {
+    four(*m);
     let a = u64::count_ones(m[0]) as u64;
     let b = u64::count_ones(m[1]) as u64;
     let c = u64::count_ones(m[2]) as u64;
@@ -55,9 +66,10 @@ pub fn count(m: Marks) -> u64
 }
 
 // The lowest marked word; 256 where no word is marked.
-pub fn lowest(m: Marks) -> u64
-    ensures { λ r. ⌜ r ≡ lowestOf m ⌝ }
+pub fn lowest(m: &Marks) -> u64
+    ensures { λ r. ⌜ r ≡ lowestOf (now (m .entry)) ⌝ }
 {
+    four(*m);
     let mut base: u64 = 0;
     let mut i: usize = 0;
     while i < 4 {
@@ -71,10 +83,17 @@ pub fn lowest(m: Marks) -> u64
     base
 }
 
-// Whether some word at n or above is marked.
-pub fn stands_from(m: Marks, n: u64) -> bool
-    ensures { λ r. ⌜ r ≡ standsFrom m n ⌝ }
+// Whether some word at n or above is marked. No number is looked at where n is past the row, and only the last where the words from n on are all in it.
+pub fn stands_from(m: &Marks, n: u64) -> bool
+    ensures { λ r. ⌜ r ≡ standsFrom (now (m .entry)) n ⌝ }
 {
+    four(*m);
+    if 256 <= n {
+        return false;
+    }
+    if 192 <= n {
+        return m[3] >> (n - 192) != 0;
+    }
     let mut from = n;
     let mut i: usize = 0;
     while i < 4 {

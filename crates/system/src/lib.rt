@@ -1,83 +1,155 @@
-// The calls of the step machine on no record: a system flush, a crash, and the lines of recovery. Each tests for fitness all that it is handed,
-// the three word rows, the marks, the count and recovery, and answers for all arguments.
+// Any call on no record: a system flush, a crash, and the lines of recovery. It tests for fitness all that it is handed, the three word rows, the marks,
+// the count and recovery, and answers for all arguments.
 mod recovery;
 mod words;
 
-use crate::recovery::heal;
+use crate::recovery::Heal;
 use crate::recovery::recovery_line;
 use crate::recovery::recovery_lines;
 use crate::words::copy;
 use dtml::Answer;
 use dtml::Phase;
 use dtml::Recovery;
+use dtml::Sys;
 use dtml::Tx;
 use marks::Marks;
+use parts::answer::value;
 use parts::fit::unfit_beside;
 use parts::words::flush_word;
 use stages::is_live;
 use stages::not_idle;
 use stages::stage;
 ghost use mathlib.Core.Path.{_≡_};
+ghost use mathlib.Core.Bool.{false};
+ghost use lib.Dec.{leb};
+ghost use lib.ListN.{length};
+ghost use Rattle.bits.specs.Marks.{pick};
 ghost use Rattle.dtml.specs.Store.{memory};
 ghost use Rattle.dtml.specs.Lines.{crashTx};
-ghost use Rattle.dtml.specs.Asked.{Sys};
-ghost use Rattle.dtml.specs.Calls.{callSystem};
-ghost use Rattle.system.specs.Healing.{healOf, healedOf};
+ghost use Rattle.dtml.specs.Asked.{recover as recoverAsked, recoverUpTo};
+ghost use Rattle.dtml.specs.Checks.{unfitBeside};
+ghost use Rattle.dtml.specs.Handed.{callSystem};
+ghost use Rattle.parts.specs.Flush.{flushIn};
+ghost use Rattle.system.specs.Healing.{happenedOf, fitOf};
 
-// What a call on the store gives back.
-pub struct Heal {
-    pub answer: Answer,
-    pub recovery: Recovery,
+// What a call gives back: it was refused; or it was a flush, which leaves recovery where it stands; or a crash, which leaves it at C1 and reaches every
+// record (`crash_tx`); or so many recovery lines.
+pub enum Event {
+    Refused {
+        answer: Answer,
+    },
+    Flushed,
+    Crashed,
+    Healed {
+        answer: Answer,
+        lines: u64,
+        recovery: Recovery,
+    },
 }
 
-fn kept(answer: Answer, recovery: Recovery) -> Heal
-    ensures { λ r. ⌜ r ≡ healOf answer recovery ⌝ }
+fn refused(answer: Answer) -> Event
+    ensures { λ r. ⌜ r ≡ Event.Refused answer ⌝ }
 {
-    Heal { answer, recovery }
+    Event::Refused { answer }
 }
 
-pub fn flush(
-    vol: &[u32],
-    pers: &mut [u32],
-    old: &[u32],
-    marks: Marks,
-    glb: u32,
-    recovery: Recovery,
-    word: u64,
-) -> Heal
-    ensures { λ r. ⌜ healedOf r (memory (now (vol .entry)) (now (pers .exit)) (now (old .entry)) marks glb)
-        ≡ callSystem (memory (now (vol .entry)) (now (pers .entry)) (now (old .entry)) marks glb) recovery (Sys.flush word) ⌝ }
+fn healed(heal: Heal, lines: u64) -> Event
+    ensures { λ r. ⌜ r ≡ Event.Healed (heal .answer) lines (heal .recovery) ⌝ }
 {
-    if unfit_beside(vol.len(), pers.len(), old.len(), marks, glb, recovery) {
-        return kept(Answer::Unfit, recovery);
+    let answer = heal.answer;
+    let recovery = heal.recovery;
+    Event::Healed {
+        answer,
+        lines,
+        recovery,
     }
-    if vol.len() as u64 <= word {
-        return kept(Answer::NoWord, recovery);
+}
+
+fn flush(vol: &[u32], pers: &mut [u32], word: u32) -> Event
+    ensures { λ r. ⌜ (r ≡ pick (leb (length (now (vol .entry))) word) (Event.Refused Answer.NoWord) Event.Flushed)
+        × (now (pers .exit) ≡ pick (leb (length (now (vol .entry))) word) (now (pers .entry)) (flushIn (now (vol .entry)) (now (pers .entry)) word)) ⌝ }
+{
+    if vol.len() <= word as usize {
+        return refused(Answer::NoWord);
     }
     flush_word(vol, pers, word as usize);
-    heal(recovery)
+    Event::Flushed
 }
 
-// What a crash does to the memory and to recovery; `crash_tx` is what it does to each record.
-pub fn crash(
-    vol: &mut [u32],
-    pers: &[u32],
-    old: &[u32],
-    marks: Marks,
-    glb: &mut u32,
-    recovery: Recovery,
-) -> Heal
-    ensures { λ r. ⌜ healedOf r (memory (now (vol .exit)) (now (pers .entry)) (now (old .entry)) marks (now (glb .exit)))
-        ≡ callSystem (memory (now (vol .entry)) (now (pers .entry)) (now (old .entry)) marks (now (glb .entry))) recovery Sys.crash ⌝ }
+// What a crash does to the memory.
+fn crash(vol: &mut [u32], pers: &[u32], glb: &mut u32) -> Event
+    requires { ⌜ length (now vol) ≡ length (now pers) ⌝ }
+    ensures { λ r. ⌜ (r ≡ Event.Crashed) × (now (vol .exit) ≡ now (pers .entry)) × (now (glb .exit) ≡ 0) ⌝ }
 {
-    if unfit_beside(vol.len(), pers.len(), old.len(), marks, *glb, recovery) {
-        return kept(Answer::Unfit, recovery);
-    }
     copy(vol, pers);
     *glb = 0;
-    heal(Recovery::C1)
+    Event::Crashed
 }
 
+fn recover(
+    vol: &mut [u32],
+    pers: &mut [u32],
+    old: &[u32],
+    marks: &mut Marks,
+    glb: &mut u32,
+    recovery: Recovery,
+) -> Event
+    requires { ⌜ unfitBeside (length (now vol)) (length (now pers)) (length (now old)) (now marks) (now glb) recovery ≡ false ⌝ }
+    ensures { λ r. ⌜ happenedOf r (memory (now (vol .exit)) (now (pers .exit)) (now (old .entry)) (now (marks .exit)) (now (glb .exit)))
+        ≡ fitOf (memory (now (vol .entry)) (now (pers .entry)) (now (old .entry)) (now (marks .entry)) (now (glb .entry))) recovery recoverAsked ⌝ }
+{
+    if !not_idle(recovery) {
+        return refused(Answer::Idle);
+    }
+    healed(recovery_line(vol, pers, old, marks, glb, recovery), 1)
+}
+
+// As many recovery lines as the allowance, or all that are left up to and with C6 if those are fewer.
+fn recover_up_to(
+    vol: &mut [u32],
+    pers: &mut [u32],
+    old: &[u32],
+    marks: &mut Marks,
+    glb: &mut u32,
+    recovery: Recovery,
+    allowance: u64,
+) -> Event
+    requires { ⌜ unfitBeside (length (now vol)) (length (now pers)) (length (now old)) (now marks) (now glb) recovery ≡ false ⌝ }
+    ensures { λ r. ⌜ happenedOf r (memory (now (vol .exit)) (now (pers .exit)) (now (old .entry)) (now (marks .exit)) (now (glb .exit)))
+        ≡ fitOf (memory (now (vol .entry)) (now (pers .entry)) (now (old .entry)) (now (marks .entry)) (now (glb .entry))) recovery (recoverUpTo allowance) ⌝ }
+{
+    if !not_idle(recovery) {
+        return refused(Answer::Idle);
+    }
+    let heal = recovery_lines(vol, pers, old, marks, glb, recovery, allowance);
+    let answer = heal.answer;
+    healed(heal, value(answer))
+}
+
+pub fn call_system(
+    vol: &mut [u32],
+    pers: &mut [u32],
+    old: &[u32],
+    marks: &mut Marks,
+    glb: &mut u32,
+    recovery: Recovery,
+    sys: Sys,
+) -> Event
+    ensures { λ r. ⌜ happenedOf r (memory (now (vol .exit)) (now (pers .exit)) (now (old .entry)) (now (marks .exit)) (now (glb .exit)))
+        ≡ callSystem (memory (now (vol .entry)) (now (pers .entry)) (now (old .entry)) (now (marks .entry)) (now (glb .entry))) recovery sys ⌝ }
+{
+    if unfit_beside(vol.len(), pers.len(), old.len(), &*marks, *glb, recovery) {
+        return refused(Answer::Unfit);
+    }
+    match sys {
+        Sys::Flush { word } => flush(&*vol, pers, word),
+        Sys::Crash => crash(vol, &*pers, glb),
+        Sys::Recover => recover(vol, pers, old, marks, glb, recovery),
+        Sys::RecoverUpTo { allowance } => recover_up_to(vol, pers, old, marks, glb, recovery, allowance),
+    }
+}
+
+// What a crash does to each record.
 pub fn crash_tx(tx: Tx) -> Tx
     ensures { λ r. ⌜ r ≡ crashTx tx ⌝ }
 {
@@ -89,46 +161,4 @@ pub fn crash_tx(tx: Tx) -> Tx
         };
     }
     tx
-}
-
-pub fn recover(
-    vol: &mut [u32],
-    pers: &mut [u32],
-    old: &[u32],
-    marks: &mut Marks,
-    glb: &mut u32,
-    recovery: Recovery,
-) -> Heal
-    ensures { λ r. ⌜ healedOf r (memory (now (vol .exit)) (now (pers .exit)) (now (old .entry)) (now (marks .exit)) (now (glb .exit)))
-        ≡ callSystem (memory (now (vol .entry)) (now (pers .entry)) (now (old .entry)) (now (marks .entry)) (now (glb .entry))) recovery Sys.recover ⌝ }
-{
-    if unfit_beside(vol.len(), pers.len(), old.len(), *marks, *glb, recovery) {
-        return kept(Answer::Unfit, recovery);
-    }
-    if !not_idle(recovery) {
-        return kept(Answer::Idle, recovery);
-    }
-    recovery_line(vol, pers, old, marks, glb, recovery)
-}
-
-// As many recovery lines as the allowance, or all that are left up to and with C6 if those are fewer.
-pub fn recover_up_to(
-    vol: &mut [u32],
-    pers: &mut [u32],
-    old: &[u32],
-    marks: &mut Marks,
-    glb: &mut u32,
-    recovery: Recovery,
-    allowance: u64,
-) -> Heal
-    ensures { λ r. ⌜ healedOf r (memory (now (vol .exit)) (now (pers .exit)) (now (old .entry)) (now (marks .exit)) (now (glb .exit)))
-        ≡ callSystem (memory (now (vol .entry)) (now (pers .entry)) (now (old .entry)) (now (marks .entry)) (now (glb .entry))) recovery (Sys.recoverUpTo allowance) ⌝ }
-{
-    if unfit_beside(vol.len(), pers.len(), old.len(), *marks, *glb, recovery) {
-        return kept(Answer::Unfit, recovery);
-    }
-    if !not_idle(recovery) {
-        return kept(Answer::Idle, recovery);
-    }
-    recovery_lines(vol, pers, old, marks, glb, recovery, allowance)
 }

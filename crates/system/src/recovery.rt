@@ -1,5 +1,4 @@
 // The lines of recovery, C1 to C6.
-use crate::Heal;
 use dtml::Answer;
 use dtml::Recovery;
 use marks::Marks;
@@ -17,7 +16,13 @@ ghost use Rattle.dtml.specs.Checks.{unfitBeside, notIdle};
 ghost use Rattle.dtml.specs.Calls.{upTo};
 ghost use Rattle.system.specs.Healing.{healOf, healedOf};
 
-pub(crate) fn heal(recovery: Recovery) -> Heal
+// What a line of recovery, or some, leave beside the memory.
+pub(crate) struct Heal {
+    pub answer: Answer,
+    pub recovery: Recovery,
+}
+
+fn heal(recovery: Recovery) -> Heal
     ensures { λ r. ⌜ r ≡ healOf (Answer.Taken 0) recovery ⌝ }
 {
     Heal {
@@ -26,8 +31,8 @@ pub(crate) fn heal(recovery: Recovery) -> Heal
     }
 }
 
-fn c1(marks: Marks) -> Recovery
-    ensures { λ r. ⌜ r ≡ pick (anyMark marks) Recovery.C2 Recovery.C6 ⌝ }
+fn c1(marks: &Marks) -> Recovery
+    ensures { λ r. ⌜ r ≡ pick (anyMark (now (marks .entry))) Recovery.C2 Recovery.C6 ⌝ }
 {
     if marks::count(marks) != 0 {
         Recovery::C2
@@ -36,9 +41,9 @@ fn c1(marks: Marks) -> Recovery
     }
 }
 
-fn c2(old: &[u32], marks: Marks) -> Recovery
-    requires { ⌜ (lowestOf marks < length (now old)) × (lowestOf marks < 256) ⌝ }
-    ensures { λ r. ⌜ r ≡ Recovery.C3 (lowestOf marks) (getD (now (old .entry)) (lowestOf marks) 0) ⌝ }
+fn c2(old: &[u32], marks: &Marks) -> Recovery
+    requires { ⌜ (lowestOf (now marks) < length (now old)) × (lowestOf (now marks) < 256) ⌝ }
+    ensures { λ r. ⌜ r ≡ Recovery.C3 (lowestOf (now (marks .entry))) (getD (now (old .entry)) (lowestOf (now (marks .entry))) 0) ⌝ }
 {
     let w = marks::lowest(marks);
     let value = old[w as usize];
@@ -61,8 +66,8 @@ pub(crate) fn recovery_line(
 {
     match recovery {
         Recovery::Idle => heal(Recovery::Idle),
-        Recovery::C1 => heal(c1(*marks)),
-        Recovery::C2 => heal(c2(old, *marks)),
+        Recovery::C1 => heal(c1(&*marks)),
+        Recovery::C2 => heal(c2(old, &*marks)),
         Recovery::C3 { word, value } => {
             vol[word as usize] = value;
             heal(Recovery::C4 { word, value })
@@ -72,7 +77,7 @@ pub(crate) fn recovery_line(
             heal(Recovery::C5 { word, value })
         }
         Recovery::C5 { word, value: _ } => {
-            *marks = marks::unmark(*marks, word as u64);
+            marks::unmark(marks, word as u64);
             heal(Recovery::C1)
         }
         Recovery::C6 => {

@@ -4,11 +4,14 @@ use Rattle.dtml.specs.declared.Answer.{Answer}
 use Rattle.dtml.specs.declared.Phase.{Phase}
 use Rattle.dtml.specs.Table.{reply}
 use Rattle.dtml.specs.Store.{Memory, tx}
-use Rattle.dtml.specs.Asked.{Did, did}
+use Rattle.dtml.specs.Asked.{did}
+use Rattle.dtml.specs.Handed.{Turned, no-turn, a-turn}
 use Rattle.turn.specs.declared.Turn.{Turn}
+use Rattle.turn.specs.declared.Turn.the-variants.{Refused, Went}
 
 abbrev pub turnOf : Answer → ℕ → Phase → Turn
-turnOf a loc p = record { answer = a; tx = tx loc p }
+turnOf a loc p = Went a (tx loc p)
 
-abbrev pub didOf : Turn → Memory → Did
-didOf s m = did (reply (s .answer)) m (s .tx)
+abbrev pub turnedOf : Turn → Memory → Turned
+turnedOf (Refused a) m = no-turn (reply a) m
+turnedOf (Went a t) m = a-turn (did (reply a) m t)

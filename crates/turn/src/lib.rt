@@ -5,23 +5,23 @@ use dtml::Tx;
 ghost use mathlib.Core.Path.{_≡_};
 ghost use Rattle.turn.specs.Turning.{turnOf};
 
-pub struct Turn {
-    pub answer: Answer,
-    pub tx: Tx,
+// It was refused, and the record stays as it came; or it went, and this is the record.
+pub enum Turn {
+    Refused { answer: Answer },
+    Went { answer: Answer, tx: Tx },
 }
 
-// The record as it came.
-pub fn refused(answer: Answer, tx: Tx) -> Turn
-    ensures { λ r. ⌜ r ≡ record { answer = answer; tx = tx } ⌝ }
+pub fn refused(answer: Answer) -> Turn
+    ensures { λ r. ⌜ r ≡ Turn.Refused answer ⌝ }
 {
-    Turn { answer, tx }
+    Turn::Refused { answer }
 }
 
 // To the next line, with nothing to report.
 pub fn to(loc: u32, phase: Phase) -> Turn
     ensures { λ r. ⌜ r ≡ turnOf (Answer.Taken 0) loc phase ⌝ }
 {
-    Turn {
+    Turn::Went {
         answer: Answer::Taken { lines: 0 },
         tx: Tx { loc, phase },
     }
@@ -30,7 +30,7 @@ pub fn to(loc: u32, phase: Phase) -> Turn
 pub fn answered(answer: Answer, loc: u32, phase: Phase) -> Turn
     ensures { λ r. ⌜ r ≡ turnOf answer loc phase ⌝ }
 {
-    Turn {
+    Turn::Went {
         answer,
         tx: Tx { loc, phase },
     }

@@ -18,26 +18,29 @@ Inv-loop m base₀ i₀ base i = (i ≤ 4) × (base ≡ 64 * i) × (base + lowes
 abbrev μ-loop : tie.MeasureT-loop
 μ-loop m base₀ i₀ base i = 4 - i
 
+four-requires : tie.Need-four-requires Inv-loop μ-loop
+four-requires c κs = tt
+
 loop-holds : tie.Need-loop-holds Inv-loop μ-loop
 loop-holds c = omega arith
 
 mul-zeros : tie.Need-mul-zeros Inv-loop μ-loop
 mul-zeros c = omega arith
 
-array-read-zeros : tie.Need-array-read-zeros Inv-loop μ-loop
-array-read-zeros c = omega arith
+element-copy-out-zeros : tie.Need-element-copy-out-zeros Inv-loop μ-loop
+element-copy-out-zeros c = omega arith
 
 cast-zeros : tie.Need-cast-zeros Inv-loop μ-loop
-cast-zeros c = omega (arith, trailing-le 64 (getD (c .before .before .args .t1) (c .before .loop .i) 0))
+cast-zeros c = omega (arith, trailing-le 64 (getD (c .before .before .before .before .before .args .m .now) (c .before .before .loop .i) 0))
 
 add-result : tie.Need-add-result Inv-loop μ-loop
 add-result c = omega arith
 
 returns : tie.Need-returns Inv-loop μ-loop
 returns c =
-    let m : List ℕ = c .before .before .before .args .t1 in
-    let i : ℕ = c .before .before .loop .i in
-    let four : length m ≡ 4 = c .before .before .before .good .0 .1 .0 .1 in
+    let m : List ℕ = c .before .before .before .before .before .before .args .m .now in
+    let i : ℕ = c .before .before .before .loop .i in
+    let four : length m ≡ 4 = c .before .before .before .before .four .ensures .0 in
     omega (arith, lowest-found m i (omega arith) (omega arith))
 
 add-base : tie.Need-add-base Inv-loop μ-loop
@@ -51,16 +54,16 @@ loop-less c = omega arith
 
 loop-again : tie.Need-loop-again Inv-loop μ-loop
 loop-again c =
-    let m : List ℕ = c .before .before .before .args .t1 in
-    let i : ℕ = c .before .before .loop .i in
-    let four : length m ≡ 4 = c .before .before .before .good .0 .1 .0 .1 in
+    let m : List ℕ = c .before .before .before .before .before .before .args .m .now in
+    let i : ℕ = c .before .before .before .loop .i in
+    let four : length m ≡ 4 = c .before .before .before .before .four .ensures .0 in
     rw (add-one i) (omega (arith, lowest-next m i (omega arith) (omega arith)))
 
 returns-2 : tie.Need-returns-2 Inv-loop μ-loop
 unfolding lowestOf
 returns-2 c =
-    let m : List ℕ = c .before .before .args .t1 in
-    let four : length m ≡ 4 = c .before .before .good .0 .1 .0 .1 in
+    let m : List ℕ = c .before .before .before .before .args .m .now in
+    let four : length m ≡ 4 = c .before .before .four .ensures .0 in
     omega (arith, ap lowestOf (drop-of-length-le m {i = c .before .loop .i} (omega arith)))
 
 pub lowest-spec : {M : Type 1} → statement M
@@ -69,9 +72,10 @@ lowest-spec =
     (tie.spec
     Inv-loop
     μ-loop
+    four-requires
     loop-holds
     mul-zeros
-    array-read-zeros
+    element-copy-out-zeros
     cast-zeros
     add-result
     returns

@@ -3,40 +3,51 @@ use mathlib.Core.Path.{sym, ap}
 use mathlib.Core.List.{List}
 use Prim.Native.Nat.{ℕ, _/_, _%_}
 use native.Mathlib.Omega.{arith}
-use borrow.Author.Needs.{needs}
 use lib.ListN.{getD, set}
 use Rattle.bits.specs.Marks.{withMark}
 use Rattle.bits.proofs.Digits.{or-shift}
 use Rattle.bits.proofs.Laws.{with-past}
+use borrow.Author.Needs.{needs}
 use Rattle.marks.proofs.mark.Statement.{statement}
 use Rattle.marks.proofs.mark.Tie as tie
 
-mul-next : tie.Need-mul-next
-mul-next c = search needs
+four-requires : tie.Need-four-requires
+four-requires c κs = search needs
 
-array-read-next : tie.Need-array-read-next
-array-read-next c = search needs
+mul-m : tie.Need-mul-m
+mul-m c = search needs
 
-shl-next : tie.Need-shl-next
-shl-next c = search needs
+element-copy-out-m : tie.Need-element-copy-out-m
+element-copy-out-m c = search needs
 
-mul-next-2 : tie.Need-mul-next-2
-mul-next-2 c = search needs
+shl-m : tie.Need-shl-m
+shl-m c = search needs
 
-array-write-next : tie.Need-array-write-next
-array-write-next c = search needs
+mul-m-2 : tie.Need-mul-m-2
+mul-m-2 c = search needs
+
+element-write-m : tie.Need-element-write-m
+element-write-m c = search needs
 
 returns : tie.Need-returns
 unfolding withMark
 returns c =
-    let m : List ℕ = c .before .args .t1 in
-    let w : ℕ = c .before .args .w in
+    let m : List ℕ = c .before .before .before .before .args .m .now in
+    let w : ℕ = c .before .before .before .before .args .w in
     ap (λ (x : ℕ). set m (w / 64) x) (or-shift 64 (getD m (w / 64) 0) (w % 64) (omega arith))
 
 returns-2 : tie.Need-returns-2
-returns-2 c = sym (with-past (c .before .args .t1) (c .before .args .w) 1 (omega (arith, c .before .good .0 .1 .0 .1)))
+returns-2 c = sym (with-past (c .before .before .before .args .m .now) (c .before .before .before .args .w) 1 (omega (arith, c .before .four .ensures .0)))
 
 pub mark-spec : {M : Type 1} → statement M
 mark-spec =
     tie.close
-    (tie.spec mul-next array-read-next shl-next mul-next-2 array-write-next returns returns-2)
+    (tie.spec
+    four-requires
+    mul-m
+    element-copy-out-m
+    shl-m
+    mul-m-2
+    element-write-m
+    returns
+    returns-2)
