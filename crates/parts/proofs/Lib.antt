@@ -1,1 +1,3 @@
+-- What the proofs share, and those of other crates.
 pub mod InRows
+mod Beside
