@@ -6,10 +6,11 @@ use lib.Dec.{leb}
 use Rattle.bits.specs.Marks.{pick}
 use Rattle.dtml.specs.declared.Answer.{Answer}
 use Rattle.dtml.specs.declared.Answer.the-variants.{Unfit, NoWord, NoRecord, NotIdle}
+use Rattle.dtml.specs.declared.Ask.{Ask}
+use Rattle.dtml.specs.declared.Ask.the-variants.{Begin as begin, Read as read, Write as write, Commit as commit, Step as step}
 use Rattle.dtml.specs.declared.Tx.{Tx}
 use Rattle.dtml.specs.Table.{says}
 use Rattle.dtml.specs.Store.{Memory}
-use Rattle.dtml.specs.Asked.{Ask, begin, read, write, commit, step}
 use Rattle.dtml.specs.Lines.{stage, line}
 use Rattle.dtml.specs.First.{_⇒_, first}
 use Rattle.dtml.specs.Checks.{isAtLine}
