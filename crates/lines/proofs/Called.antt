@@ -3,12 +3,13 @@
 use Prim.Native.Nat.{ℕ, _<_}
 use mathlib.Core.Path.{_≡_, refl, sym, _∙_}
 use mathlib.Core.Bool.{Bool, true, false, not}
+use mathlib.Core.List.{[], _∷_}
 use borrow.Author.Tests.{lt-leb}
 use lib.Dec.{leb}
 use lib.ListN.{length}
 use Rattle.bits.specs.Marks.{pick}
 use Rattle.dtml.specs.declared.Answer.{Answer}
-use Rattle.dtml.specs.declared.Answer.the-variants.{Taken, NoWord, NotFresh, NotReady}
+use Rattle.dtml.specs.declared.Answer.the-variants.{Taken, Unfit, NoWord, NoRecord, NotFresh, NotReady}
 use Rattle.dtml.specs.declared.Ask.{Ask}
 use Rattle.dtml.specs.declared.Ask.the-variants.{Begin, Read, Write, Commit, Step}
 use Rattle.dtml.specs.declared.Phase.the-variants.{B1, R1, W1, E1}
@@ -19,6 +20,7 @@ use Rattle.dtml.specs.Table.{says, reply}
 use Rattle.dtml.specs.Store.{Memory, tx, size}
 use Rattle.dtml.specs.Asked.{did}
 use Rattle.dtml.specs.Lines.{stage}
+use Rattle.dtml.specs.First.{anyOf}
 use Rattle.dtml.specs.Checks.{unfitMemory, unfitOne, unfitTx, notIdle, isNew, isWaiting}
 use Rattle.dtml.specs.Calls.{ask}
 use Rattle.dtml.specs.Handed.{no-turn, a-turn, callOne}
@@ -26,27 +28,48 @@ use Rattle.turn.specs.declared.Turn.the-variants.{Refused, Went}
 use Rattle.turn.specs.Turning.{turnedOf}
 use Rattle.lines.specs.Stepping.{stepOf, askPast, refusalOf}
 
--- ---- while recovery is under way
-
-refusal : (bad nobody past : Bool) (m : Memory)
-    → turnedOf (Refused (refusalOf bad nobody past)) m
-    ≡ pick bad (no-turn (says 9 0) m) (pick nobody (no-turn (says 11 0) m) (pick past (no-turn (says 10 0) m) (no-turn (says 12 0) m)))
-refusal true nobody past m = refl
-refusal false true past m = refl
-refusal false false true m = refl
-refusal false false false m = refl
+-- ---- by the identifier
 
 abbrev unfitWith : Memory → Recovery → Tx → Bool
 unfitWith m r t = unfitOne (length (m .vol)) (length (m .pers)) (length (m .old)) (m .marks) (m .glb) r t
 
-pub recovering : (m : Memory) (r : Recovery) (t : Tx) (i : ℕ) (a : Ask) → notIdle r ≡ true
-    → turnedOf (Refused (refusalOf (unfitWith m r t) (leb 64 i) (askPast (size m) a))) m ≡ callOne m r t i a
+nobody-there : (bad : Bool) (m : Memory)
+    → turnedOf (Refused (pick bad Unfit NoRecord)) m ≡ pick bad (no-turn (says 9 0) m) (no-turn (says 11 0) m)
+nobody-there true m = refl
+nobody-there false m = refl
+
+-- it names no record
+pub no-record : (m : Memory) (r : Recovery) (t : Tx) (i : ℕ) (a : Ask) → leb 64 i ≡ true
+    → turnedOf (Refused (pick (unfitWith m r t) Unfit NoRecord)) m ≡ callOne m r t i a
 unfolding callOne
-recovering m r t i Begin h = rw h (refusal (unfitWith m r t) (leb 64 i) false m)
-recovering m r t i (Read w) h = rw h (refusal (unfitWith m r t) (leb 64 i) (leb (size m) w) m)
-recovering m r t i (Write w v) h = rw h (refusal (unfitWith m r t) (leb 64 i) (leb (size m) w) m)
-recovering m r t i Commit h = rw h (refusal (unfitWith m r t) (leb 64 i) false m)
-recovering m r t i Step h = rw h (refusal (unfitWith m r t) (leb 64 i) false m)
+no-record m r t i a past = rw past (nobody-there (unfitWith m r t) m)
+
+-- it names one: which one makes no difference
+pub any-there : (m : Memory) (r : Recovery) (t : Tx) (i : ℕ) (a : Ask) → i < 64 → callOne m r t 0 a ≡ callOne m r t i a
+unfolding callOne
+any-there m r t i a there = rw (lt-leb 64 i there)
+
+-- unfit beside the record or in it, whichever is looked at first
+pub unfit-own : (beside own : Bool) → own ≡ true → anyOf (beside ∷ own ∷ []) ≡ true
+unfit-own true own h = refl
+unfit-own false own h = rw h
+
+-- ---- while recovery is under way
+
+refusal : (bad past : Bool) (m : Memory)
+    → turnedOf (Refused (refusalOf bad past)) m ≡ pick bad (no-turn (says 9 0) m) (pick past (no-turn (says 10 0) m) (no-turn (says 12 0) m))
+refusal true past m = refl
+refusal false true m = refl
+refusal false false m = refl
+
+pub recovering : (m : Memory) (r : Recovery) (t : Tx) (a : Ask) → notIdle r ≡ true
+    → turnedOf (Refused (refusalOf (unfitWith m r t) (askPast (size m) a))) m ≡ callOne m r t 0 a
+unfolding callOne
+recovering m r t Begin h = rw h (refusal (unfitWith m r t) false m)
+recovering m r t (Read w) h = rw h (refusal (unfitWith m r t) (leb (size m) w) m)
+recovering m r t (Write w v) h = rw h (refusal (unfitWith m r t) (leb (size m) w) m)
+recovering m r t Commit h = rw h (refusal (unfitWith m r t) false m)
+recovering m r t Step h = rw h (refusal (unfitWith m r t) false m)
 
 -- ---- while it is idle
 
@@ -59,33 +82,27 @@ idle-is (C4 w v) h = cc
 idle-is (C5 w v) h = cc
 idle-is C6 h = cc
 
-pub unfit-beside : (m : Memory) (r : Recovery) (t : Tx) (i : ℕ) (a : Ask) → notIdle r ≡ false → unfitMemory m Idle ≡ true
-    → no-turn (says 9 0) m ≡ callOne m r t i a
+pub unfit-beside : (m : Memory) (r : Recovery) (t : Tx) (a : Ask) → notIdle r ≡ false → unfitMemory m Idle ≡ true
+    → no-turn (says 9 0) m ≡ callOne m r t 0 a
 unfolding callOne unfitOne
-unfit-beside m r t i a idle beside = rw (idle-is r idle, beside)
+unfit-beside m r t a idle beside = rw (idle-is r idle, beside)
 
-pub unfit-record : (m : Memory) (r : Recovery) (t : Tx) (i : ℕ) (a : Ask) → notIdle r ≡ false → unfitMemory m Idle ≡ false → unfitTx (size m) t ≡ true
-    → no-turn (says 9 0) m ≡ callOne m r t i a
+pub unfit-record : (m : Memory) (r : Recovery) (t : Tx) (a : Ask) → notIdle r ≡ false → unfitMemory m Idle ≡ false → unfitTx (size m) t ≡ true
+    → no-turn (says 9 0) m ≡ callOne m r t 0 a
 unfolding callOne unfitOne
-unfit-record m r t i a idle beside own = rw (idle-is r idle, beside, own)
+unfit-record m r t a idle beside own = rw (idle-is r idle, beside, own)
 
-pub no-record : (m : Memory) (r : Recovery) (t : Tx) (i : ℕ) (a : Ask) → notIdle r ≡ false → unfitMemory m Idle ≡ false → unfitTx (size m) t ≡ false → leb 64 i ≡ true
-    → no-turn (says 11 0) m ≡ callOne m r t i a
-unfolding callOne unfitOne
-no-record m r t i a idle beside own past = rw (idle-is r idle, beside, own, past)
-
--- what is handed over is fit, and the identifier names a record
-pub record Fit (m : Memory) (r : Recovery) (t : Tx) (i : ℕ) : Type 0 where
+-- what is handed over is fit
+pub record Fit (m : Memory) (r : Recovery) (t : Tx) : Type 0 where
   pub idle : notIdle r ≡ false
   pub beside : unfitMemory m Idle ≡ false
   pub own : unfitTx (size m) t ≡ false
-  pub there : leb 64 i ≡ false
 
 -- from the tests, each by what its call ensures and by its result
-pub fit : {m : Memory} {r : Recovery} {t : Tx} {i : ℕ} {q f u : Bool} → q ≡ notIdle r → q ≡ false → f ≡ unfitMemory m Idle → f ≡ false
-    → u ≡ unfitTx (size m) t → u ≡ false → i < 64 → Fit m r t i
-fit {i = i} q idle f beside u own there =
-    record { idle = sym q ∙ idle; beside = sym f ∙ beside; own = sym u ∙ own; there = lt-leb 64 i there }
+pub fit : {m : Memory} {r : Recovery} {t : Tx} {q f u : Bool} → q ≡ notIdle r → q ≡ false → f ≡ unfitMemory m Idle → f ≡ false
+    → u ≡ unfitTx (size m) t → u ≡ false → Fit m r t
+fit q idle f beside u own =
+    record { idle = sym q ∙ idle; beside = sym f ∙ beside; own = sym u ∙ own }
 
 -- the check that the stage is not the one that is asked for
 staged : (b : Bool) (x : Answer) (t : Tx) (m : Memory)
@@ -100,32 +117,32 @@ named : (past b : Bool) (t : Tx) (m : Memory)
 named true b t m = refl
 named false b t m = staged b NotReady t m
 
-pub begins : (m : Memory) (r : Recovery) (t : Tx) (i : ℕ) → Fit m r t i
-    → turnedOf (pick (isNew (stage (t .phase))) (Went (Taken 0) (tx (t .loc) B1)) (Refused NotFresh)) m ≡ callOne m r t i Begin
+pub begins : (m : Memory) (r : Recovery) (t : Tx) → Fit m r t
+    → turnedOf (pick (isNew (stage (t .phase))) (Went (Taken 0) (tx (t .loc) B1)) (Refused NotFresh)) m ≡ callOne m r t 0 Begin
 unfolding callOne unfitOne ask
-begins m r t i f =
-    rw (idle-is r (f .idle), f .beside, f .own, f .there) (staged (isNew (stage (t .phase))) NotFresh _ m)
+begins m r t f =
+    rw (idle-is r (f .idle), f .beside, f .own) (staged (isNew (stage (t .phase))) NotFresh _ m)
 
-pub reads : (m : Memory) (r : Recovery) (t : Tx) (i w : ℕ) → Fit m r t i
+pub reads : (m : Memory) (r : Recovery) (t : Tx) (w : ℕ) → Fit m r t
     → turnedOf (pick (leb (size m) w) (Refused NoWord) (pick (isWaiting (stage (t .phase))) (Went (Taken 0) (tx (t .loc) (R1 w))) (Refused NotReady))) m
-    ≡ callOne m r t i (Read w)
+    ≡ callOne m r t 0 (Read w)
 unfolding callOne unfitOne ask
-reads m r t i w f =
-    rw (idle-is r (f .idle), f .beside, f .own, f .there) (named (leb (size m) w) (isWaiting (stage (t .phase))) _ m)
+reads m r t w f =
+    rw (idle-is r (f .idle), f .beside, f .own) (named (leb (size m) w) (isWaiting (stage (t .phase))) _ m)
 
-pub writes : (m : Memory) (r : Recovery) (t : Tx) (i w v : ℕ) → Fit m r t i
+pub writes : (m : Memory) (r : Recovery) (t : Tx) (w v : ℕ) → Fit m r t
     → turnedOf (pick (leb (size m) w) (Refused NoWord) (pick (isWaiting (stage (t .phase))) (Went (Taken 0) (tx (t .loc) (W1 w v))) (Refused NotReady))) m
-    ≡ callOne m r t i (Write w v)
+    ≡ callOne m r t 0 (Write w v)
 unfolding callOne unfitOne ask
-writes m r t i w v f =
-    rw (idle-is r (f .idle), f .beside, f .own, f .there) (named (leb (size m) w) (isWaiting (stage (t .phase))) _ m)
+writes m r t w v f =
+    rw (idle-is r (f .idle), f .beside, f .own) (named (leb (size m) w) (isWaiting (stage (t .phase))) _ m)
 
-pub commits : (m : Memory) (r : Recovery) (t : Tx) (i : ℕ) → Fit m r t i
-    → turnedOf (pick (isWaiting (stage (t .phase))) (Went (Taken 0) (tx (t .loc) E1)) (Refused NotReady)) m ≡ callOne m r t i Commit
+pub commits : (m : Memory) (r : Recovery) (t : Tx) → Fit m r t
+    → turnedOf (pick (isWaiting (stage (t .phase))) (Went (Taken 0) (tx (t .loc) E1)) (Refused NotReady)) m ≡ callOne m r t 0 Commit
 unfolding callOne unfitOne ask
-commits m r t i f =
-    rw (idle-is r (f .idle), f .beside, f .own, f .there) (staged (isWaiting (stage (t .phase))) NotReady _ m)
+commits m r t f =
+    rw (idle-is r (f .idle), f .beside, f .own) (staged (isWaiting (stage (t .phase))) NotReady _ m)
 
-pub steps : (m : Memory) (r : Recovery) (t : Tx) (i : ℕ) → Fit m r t i → stepOf m t ≡ callOne m r t i Step
+pub steps : (m : Memory) (r : Recovery) (t : Tx) → Fit m r t → stepOf m t ≡ callOne m r t 0 Step
 unfolding callOne unfitOne ask
-steps m r t i f = rw (idle-is r (f .idle), f .beside, f .own, f .there)
+steps m r t f = rw (idle-is r (f .idle), f .beside, f .own)
