@@ -77,8 +77,11 @@ carry m r t (on i a) = turnLeft r t (callOne m r t i a)
 carry m r t (sys k) = eventLeft r t (callSystem m r k)
 
 -- the record that a call is handed: that of its identifier; record 0, which stays as it is, where there is none
+abbrev pub placeOf : ℕ → ℕ
+placeOf i = pick (leb 64 i) 0 i
+
 abbrev pub slotOf : Call → ℕ
-slotOf (on i a) = pick (leb 64 i) 0 i
+slotOf (on i a) = placeOf i
 slotOf (sys k) = 0
 
 -- only a crash reaches the other records

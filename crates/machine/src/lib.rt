@@ -4,15 +4,14 @@ pub mod work;
 
 use crate::work::blank;
 use crate::work::renew;
+use crate::work::slot;
 use crate::work::work;
-use doing::slot;
-use dtml::Act;
 use dtml::Answer;
+use dtml::Call;
 use dtml::Recovery;
 use dtml::Tx;
 use marks::Marks;
 ghost use mathlib.Core.Path.{_≡_};
-ghost use Rattle.dtml.specs.Acts.{callOf};
 ghost use Rattle.dtml.specs.Calls.{call as called, makeFresh};
 ghost use Rattle.machine.specs.Given.{storeOf, outcomeOf};
 
@@ -52,16 +51,16 @@ pub fn call(
     old: &mut [u32],
     txs: &mut [Tx],
     held: Held,
-    act: Act,
+    asked: Call,
 ) -> After
     ensures { λ r. ⌜ outcomeOf (now (vol .exit)) (now (pers .exit)) (now (old .exit)) (now (txs .exit)) r
-        ≡ called (storeOf (now (vol .entry)) (now (pers .entry)) (now (old .entry)) held (now (txs .entry))) (callOf act) ⌝ }
+        ≡ called (storeOf (now (vol .entry)) (now (pers .entry)) (now (old .entry)) held (now (txs .entry))) asked ⌝ }
 {
-    let i = slot(act);
+    let i = slot(asked);
     let unfit = records::unfit(&*txs, vol.len());
     let tx = records::get(&*txs, i);
-    let done = work(vol, pers, old, held, unfit, tx, act);
+    let done = work(vol, pers, old, held, unfit, tx, asked);
     records::put(txs, i, done.tx);
-    records::crash_if(txs, done.cut);
+    records::crash_if(txs, done.crashed);
     done.after
 }

@@ -1,17 +1,18 @@
 // What a call does to all of the store but the lent row of records; of that row it is handed what was found of it.
 use crate::After;
 use crate::Held;
-use doing::Carried;
-use doing::carry_out;
-use doing::reaches_all;
-use dtml::Act;
 use dtml::Answer;
+use dtml::Call;
 use dtml::Phase;
 use dtml::Recovery;
 use dtml::Tx;
+use lines::call_one;
 use marks::Marks;
-use parts::fit::unfit_beside;
 use parts::fit::unfit_rows;
+use system::Event;
+use system::call_system;
+use turn::Turn;
+ghost use Prim.Native.Nat.{_<_};
 ghost use mathlib.Core.Path.{_≡_};
 ghost use mathlib.Core.Bool.{false, not};
 ghost use mathlib.Core.List.{[], _∷_};
@@ -19,45 +20,73 @@ ghost use lib.ListN.{length, replicate};
 ghost use lib.Dec.{eqb};
 ghost use Rattle.dtml.specs.declared.Phase.the-variants.{Fresh};
 ghost use Rattle.dtml.specs.Store.{memory, tx as txOf};
-ghost use Rattle.dtml.specs.Acts.{callOf};
 ghost use Rattle.dtml.specs.First.{anyOf};
 ghost use Rattle.dtml.specs.Checks.{unfitRows};
-ghost use Rattle.machine.specs.Working.{freshHeld, renewedOf, renewed, workedOf, worked};
+ghost use Rattle.dtml.specs.Handed.{placeOf, slotOf};
+ghost use Rattle.machine.specs.Working.{freshHeld, renewedOf, renewed, workedOf, worked, turnWorked, eventWorked};
+
+// The place of the record of an identifier; 0 where there is none.
+pub fn place_of(id: u64) -> usize
+    ensures { λ r. ⌜ (r ≡ placeOf id) × (r < 64) ⌝ }
+{
+    if 64 <= id {
+        return 0;
+    }
+    id as usize
+}
+
+// The place of the record that a call is on; 0 where it is on none.
+pub fn slot(call: Call) -> usize
+    ensures { λ r. ⌜ (r ≡ slotOf call) × (r < 64) ⌝ }
+{
+    match call {
+        Call::On { id, ask: _ } => place_of(id),
+        Call::Of { sys: _ } => 0,
+    }
+}
 
 // What a call leaves beside the word rows: its record, what it gives back, and whether it was a crash, which reaches every record.
 pub struct Worked {
     pub after: After,
     pub tx: Tx,
-    pub cut: bool,
+    pub crashed: bool,
 }
 
-fn kept(held: Held, tx: Tx) -> Worked
-    ensures { λ r. ⌜ r ≡ record { after = record { answer = Answer.Unfit; held = held }; tx = tx; cut = false } ⌝ }
+fn left_beside(answer: Answer, marks: Marks, glb: u32, recovery: Recovery, tx: Tx, crashed: bool) -> Worked
+    ensures { λ r. ⌜ r ≡ record { after = record { answer = answer; held = record { marks = marks; glb = glb; recovery = recovery } }; tx = tx; crashed = crashed } ⌝ }
 {
-    let after = After {
-        answer: Answer::Unfit,
-        held,
-    };
-    Worked {
-        after,
-        tx,
-        cut: false,
-    }
-}
-
-fn put_together(done: Carried, marks: Marks, glb: u32, cut: bool) -> Worked
-    ensures { λ r. ⌜ r ≡ record { after = record { answer = done .answer; held = record { marks = marks; glb = glb; recovery = done .recovery } }; tx = done .tx; cut = cut } ⌝ }
-{
-    let answer = done.answer;
-    let recovery = done.recovery;
-    let tx = done.tx;
     let held = Held {
         marks,
         glb,
         recovery,
     };
     let after = After { answer, held };
-    Worked { after, tx, cut }
+    Worked { after, tx, crashed }
+}
+
+fn by_turn(turn: Turn, marks: Marks, glb: u32, recovery: Recovery, tx: Tx) -> Worked
+    ensures { λ r. ⌜ r ≡ turnWorked turn marks glb recovery tx ⌝ }
+{
+    match turn {
+        Turn::Refused { answer } => left_beside(answer, marks, glb, recovery, tx, false),
+        Turn::Went { answer, tx: next } => left_beside(answer, marks, glb, recovery, next, false),
+    }
+}
+
+fn by_event(event: Event, marks: Marks, glb: u32, recovery: Recovery, tx: Tx) -> Worked
+    ensures { λ r. ⌜ r ≡ eventWorked event marks glb recovery tx ⌝ }
+{
+    let taken = Answer::Taken { lines: 0 };
+    match event {
+        Event::Refused { answer } => left_beside(answer, marks, glb, recovery, tx, false),
+        Event::Flushed => left_beside(taken, marks, glb, recovery, tx, false),
+        Event::Crashed => left_beside(taken, marks, glb, Recovery::C1, tx, true),
+        Event::Healed {
+            answer,
+            lines: _,
+            recovery: next,
+        } => left_beside(answer, marks, glb, next, tx, false),
+    }
 }
 
 // A call; bad says that the row of records is unfit, and tx is the record that the call names.
@@ -68,22 +97,27 @@ pub fn work(
     held: Held,
     bad: bool,
     tx: Tx,
-    act: Act,
+    call: Call,
 ) -> Worked
     ensures { λ r. ⌜ workedOf r (now (vol .exit)) (now (pers .exit)) (now (old .exit))
-        ≡ worked (memory (now (vol .entry)) (now (pers .entry)) (now (old .entry)) (held .marks) (held .glb)) (held .recovery) bad tx (callOf act) ⌝ }
+        ≡ worked (memory (now (vol .entry)) (now (pers .entry)) (now (old .entry)) (held .marks) (held .glb)) (held .recovery) bad tx call ⌝ }
 {
     let mut marks = held.marks;
     let mut glb = held.glb;
     let recovery = held.recovery;
-    if unfit_beside(vol.len(), pers.len(), old.len(), marks, glb, recovery) {
-        return kept(held, tx);
-    }
     if bad {
-        return kept(held, tx);
+        return left_beside(Answer::Unfit, marks, glb, recovery, tx, false);
     }
-    let done = carry_out(vol, pers, old, &mut marks, &mut glb, recovery, tx, act);
-    put_together(done, marks, glb, reaches_all(act))
+    match call {
+        Call::On { id, ask } => {
+            let turn = call_one(vol, pers, old, &mut marks, &mut glb, recovery, id, tx, ask);
+            by_turn(turn, marks, glb, recovery, tx)
+        }
+        Call::Of { sys } => {
+            let event = call_system(vol, pers, old, &mut marks, &mut glb, recovery, sys);
+            by_event(event, marks, glb, recovery, tx)
+        }
+    }
 }
 
 // What is left of making fresh beside the word rows: what is given back, and whether the records are to be made fresh.

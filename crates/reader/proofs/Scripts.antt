@@ -11,12 +11,12 @@ use lib.ListN.{length, take, drop, length-drop}
 use lib.Seq.{length-take-le}
 use lib.Dec.{eqb, ltb}
 use Rattle.bits.specs.Marks.{pick}
-use Rattle.dtml.specs.Asked.{Call}
+use Rattle.dtml.specs.declared.Call.{Call}
 use Rattle.dtml.specs.First.{anyOf, Check, first}
 use Rattle.dtml.proofs.Words.{same-or-not, pick-case}
 use Rattle.dtml.proofs.Fit.{last, none}
 use Rattle.reader.specs.declared.Header.{Header}
-use Rattle.reader.specs.Trace.{byte, two, version, wordsOf, headerChecks, Kind, kinds, Found, end, stops, does, ofKind, found, Script, script, follow, scriptUpTo}
+use Rattle.reader.specs.Trace.{byte, two, version, wordsOf, headerChecks, Kind, kinds, Item, end, stops, does, ofKind, found, Script, script, follow, scriptUpTo}
 use Rattle.reader.specs.Said.{headerOf}
 
 -- ---- a record's bytes
@@ -37,7 +37,7 @@ kind-bytes : (ks : List Kind) (body : List ℕ) (c : Call) (k : ℕ) → ofKind 
 unfolding ofKind
 kind-bytes [] body c k = stops-not
 kind-bytes (x ∷ xs) body c k =
-    let P : Found → Type 0 = λ f. (f ≡ does c k → k ≡ 2 + length body) in
+    let P : Item → Type 0 = λ f. (f ≡ does c k → k ≡ 2 + length body) in
     pick-case P (eqb (byte body 0) (x .number))
     (λ e. pick-case P (eqb (length body) (x .long)) (λ e. does-bytes) (λ e. stops-not))
     (λ e. kind-bytes xs body c k)
@@ -45,7 +45,7 @@ kind-bytes (x ∷ xs) body c k =
 pub found-bytes : (bs : List ℕ) (c : Call) (k : ℕ) → found bs ≡ does c k → (3 ≤ k) × (k ≤ length bs)
 unfolding found
 found-bytes bs c k =
-    let P : Found → Type 0 = λ f. (f ≡ does c k → (3 ≤ k) × (k ≤ length bs)) in
+    let P : Item → Type 0 = λ f. (f ≡ does c k → (3 ≤ k) × (k ≤ length bs)) in
     pick-case P (eqb (length bs) 0) (λ e. end-not)
     (λ e. pick-case P (ltb (length bs) 2) (λ e. stops-not)
     (λ e. pick-case P (eqb (two bs 0) 0) (λ e. stops-not)
@@ -75,7 +75,7 @@ kind-asks : (P : Call → Type 0) (xs : List Kind) (body : List ℕ) (c : Call) 
 unfolding ofKind
 kind-asks P [] body c k all = stops-not
 kind-asks P (x ∷ xs) body c k all =
-    let Q : Found → Type 0 = λ f. (f ≡ does c k → P c) in
+    let Q : Item → Type 0 = λ f. (f ≡ does c k → P c) in
     pick-case Q (eqb (byte body 0) (x .number))
     (λ e. pick-case Q (eqb (length body) (x .long)) (λ e q. subst P (does-call q) (all .0 body)) (λ e. stops-not))
     (λ e. kind-asks P xs body c k (all .1))
@@ -84,7 +84,7 @@ kind-asks P (x ∷ xs) body c k all =
 pub found-asks : (P : Call → Type 0) (bs : List ℕ) (c : Call) (k : ℕ) → AllAsk P kinds → found bs ≡ does c k → P c
 unfolding found
 found-asks P bs c k all =
-    let Q : Found → Type 0 = λ f. (f ≡ does c k → P c) in
+    let Q : Item → Type 0 = λ f. (f ≡ does c k → P c) in
     pick-case Q (eqb (length bs) 0) (λ e. end-not)
     (λ e. pick-case Q (ltb (length bs) 2) (λ e. stops-not)
     (λ e. pick-case Q (eqb (two bs 0) 0) (λ e. stops-not)
@@ -93,7 +93,7 @@ found-asks P bs c k all =
 
 -- ---- the script
 
-follow-same : (f : Found) (r s : ℕ → Script) → ((c : Call) (k : ℕ) → f ≡ does c k → r k ≡ s k) → follow f r ≡ follow f s
+follow-same : (f : Item) (r s : ℕ → Script) → ((c : Call) (k : ℕ) → f ≡ does c k → r k ≡ s k) → follow f r ≡ follow f s
 follow-same end r s h = refl
 follow-same (stops n) r s h = refl
 follow-same (does c k) r s h = ap (λ (x : Script). script (c ∷ x .calls) (x .refusal)) (h c k refl)
@@ -152,7 +152,7 @@ kind-refusal : (ks : List Kind) (body : List ℕ) (n : ℕ) → ofKind ks body �
 unfolding ofKind
 kind-refusal [] body n = stops-small (omega arith)
 kind-refusal (x ∷ xs) body n =
-    let P : Found → Type 0 = λ f. (f ≡ stops n → n < 100) in
+    let P : Item → Type 0 = λ f. (f ≡ stops n → n < 100) in
     pick-case P (eqb (byte body 0) (x .number))
     (λ e. pick-case P (eqb (length body) (x .long)) (λ e. does-not) (λ e. stops-small (omega arith)))
     (λ e. kind-refusal xs body n)
@@ -160,7 +160,7 @@ kind-refusal (x ∷ xs) body n =
 pub found-refusal : (bs : List ℕ) (n : ℕ) → found bs ≡ stops n → n < 100
 unfolding found
 found-refusal bs n =
-    let P : Found → Type 0 = λ f. (f ≡ stops n → n < 100) in
+    let P : Item → Type 0 = λ f. (f ≡ stops n → n < 100) in
     pick-case P (eqb (length bs) 0) (λ e. end-no-stop)
     (λ e. pick-case P (ltb (length bs) 2) (λ e. stops-small (omega arith))
     (λ e. pick-case P (eqb (two bs 0) 0) (λ e. stops-small (omega arith))

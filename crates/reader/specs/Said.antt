@@ -4,20 +4,12 @@ use mathlib.Core.List.{List}
 use lib.ListN.{drop}
 use denote.Ref.{now}
 use Rattle.dtml.specs.First.{first}
-use Rattle.dtml.specs.Acts.{callOf}
-use Rattle.reader.specs.declared.Item.{Item}
-use Rattle.reader.specs.declared.Item.the-variants.{End, Stops, Does}
 use Rattle.reader.specs.declared.place.Reader.{Reader}
 use Rattle.reader.specs.declared.Header.{Header}
-use Rattle.reader.specs.Trace.{Found, end, stops, does, headerChecks, wordsOf, found}
-
-abbrev pub foundOf : Item → Found
-foundOf End = end
-foundOf (Stops refusal) = stops refusal
-foundOf (Does act bytes) = does (callOf act) bytes
+use Rattle.reader.specs.Trace.{Item, end, stops, does, headerChecks, wordsOf, found}
 
 -- where a reader goes from a place: past a record that asks for something; at the trace's end, or at a record that is refused, it stays
-abbrev pub placeAfter : ℕ → Found → ℕ
+abbrev pub placeAfter : ℕ → Item → ℕ
 placeAfter at end = at
 placeAfter at (stops refusal) = at
 placeAfter at (does call bytes) = at + bytes

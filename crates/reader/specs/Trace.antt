@@ -5,7 +5,12 @@ use mathlib.Core.List.{List, [], _∷_}
 use lib.ListN.{length, getD, take, drop}
 use lib.Dec.{eqb, ltb}
 use Rattle.bits.specs.Marks.{pick}
-use Rattle.dtml.specs.Asked.{begin, read, write, commit, step, flush, crash, recover, Call, on, sys}
+use Rattle.dtml.specs.declared.Ask.the-variants.{Begin as begin, Read as read, Write as write, Commit as commit, Step as step}
+use Rattle.dtml.specs.declared.Sys.the-variants.{Flush as flush, Crash as crash, Recover as recover}
+use Rattle.dtml.specs.declared.Call.{Call}
+use Rattle.dtml.specs.declared.Call.the-variants.{On as on, Of as sys}
+pub use Rattle.reader.specs.declared.Item.{Item}
+pub use Rattle.reader.specs.declared.Item.the-variants.{End as end, Stops as stops, Does as does}
 use Rattle.dtml.specs.First.{anyOf, Check, _⇒_, first}
 
 -- ---- numbers, big-endian
@@ -61,22 +66,17 @@ kinds =
     ∷ kind 8 1 (λ body. sys recover)
     ∷ []
 
--- what stands at a place: the trace's end, a record that is refused, or one of so many bytes, its length bytes among them, with its call
-pub data Found : Type 0 where
-  end : Found
-  stops : (refusal : ℕ) → Found
-  does : (call : Call) (bytes : ℕ) → Found
+-- a body asks for the call if it is so long; else it is refused, 18
+abbrev pub ofLength : ℕ → List ℕ → Call → Item
+ofLength long body call = pick (eqb (length body) long) (does call (2 + length body)) (stops 18)
 
--- the body's first byte is the kind: 17 if it is in no row; 18 if the length is not the kind's
-unfoldable pub ofKind : List Kind → List ℕ → Found
+-- the body's first byte is the kind: 17 if it is in no row
+unfoldable pub ofKind : List Kind → List ℕ → Item
 ofKind [] body = stops 17
-ofKind (k ∷ ks) body =
-    pick (eqb (byte body 0) (k .number))
-    (pick (eqb (length body) (k .long)) (does (k .asks body) (2 + length body)) (stops 18))
-    (ofKind ks body)
+ofKind (k ∷ ks) body = pick (eqb (byte body 0) (k .number)) (ofLength (k .long) body (k .asks body)) (ofKind ks body)
 
 -- From the bytes that are left. No byte left is the end; one byte left, 20; length 0, 18; body beyond the end, 20.
-unfoldable pub found : List ℕ → Found
+unfoldable pub found : List ℕ → Item
 found bs =
     pick (eqb (length bs) 0) end
     (first (ltb (length bs) 2 ⇒ 20 ∷ eqb (two bs 0) 0 ⇒ 18 ∷ ltb (length bs) (2 + two bs 0) ⇒ 20 ∷ [])
@@ -92,7 +92,7 @@ pub record Script : Type 0 where
 abbrev pub script : List Call → ℕ → Script
 script cs k = record { calls = cs; refusal = k }
 
-abbrev pub follow : Found → (ℕ → Script) → Script
+abbrev pub follow : Item → (ℕ → Script) → Script
 follow end rest = script [] 0
 follow (stops refusal) rest = script [] refusal
 follow (does call bytes) rest = script (call ∷ rest bytes .calls) (rest bytes .refusal)

@@ -1,17 +1,15 @@
 // A record's body by the table of kinds, and the numbers in it.
 use crate::Item;
-use dtml::Act;
+use dtml::Ask;
+use dtml::Call;
+use dtml::Sys;
 ghost use Prim.Native.Nat.{_+_, _<_};
 ghost use mathlib.Core.Path.{_≡_};
 ghost use lib.ListN.{length};
-ghost use Rattle.reader.specs.Trace.{byte, two as twoOf, four as fourOf, kinds, ofKind};
-ghost use Rattle.reader.specs.Said.{foundOf};
-
-fn wide(x: u8) -> u64
-    ensures { λ r. ⌜ r ≡ x ⌝ }
-{
-    x as u64
-}
+ghost use Rattle.dtml.specs.declared.Ask.the-variants.{Read as readOf, Write as writeOf};
+ghost use Rattle.dtml.specs.declared.Sys.the-variants.{Flush as flushOf};
+ghost use Rattle.dtml.specs.declared.Call.the-variants.{On as onOf, Of as sysOf};
+ghost use Rattle.reader.specs.Trace.{byte, two as twoOf, four as fourOf, does, kinds, ofLength, ofKind};
 
 // Big-endian numbers.
 pub(crate) fn two(s: &[u8], i: usize) -> u16
@@ -35,131 +33,90 @@ fn four(s: &[u8], i: usize) -> u32
 // A whole body; its first byte is the kind.
 pub(crate) fn record(body: &[u8]) -> Item
     requires { ⌜ 0 < length (now body) ⌝ }
-    ensures { λ r. ⌜ foundOf r ≡ ofKind kinds (now (body .entry)) ⌝ }
+    ensures { λ r. ⌜ r ≡ ofKind kinds (now (body .entry)) ⌝ }
 {
     match body[0] {
-        1 => begin(body),
+        1 => bare_ask(body, Ask::Begin),
         2 => read(body),
         3 => write(body),
-        4 => commit(body),
-        5 => step(body),
+        4 => bare_ask(body, Ask::Commit),
+        5 => bare_ask(body, Ask::Step),
         6 => flush(body),
-        7 => crash(body),
-        8 => recover(body),
+        7 => bare(body, Sys::Crash),
+        8 => bare(body, Sys::Recover),
         _ => Item::Stops { refusal: 17 },
     }
 }
 
-// A body of each kind: its length is the kind's, or it is refused.
-fn begin(body: &[u8]) -> Item
-    requires { ⌜ byte (now body) 0 ≡ 1 ⌝ }
-    ensures { λ r. ⌜ foundOf r ≡ ofKind kinds (now (body .entry)) ⌝ }
+// What is asked of the record that byte 1 names.
+fn on(body: &[u8], ask: Ask) -> Item
+    requires { ⌜ 1 < length (now body) ⌝ }
+    ensures { λ r. ⌜ r ≡ does (onOf (byte (now (body .entry)) 1) ask) (2 + length (now (body .entry))) ⌝ }
 {
-    if body.len() != 2 {
-        return Item::Stops { refusal: 18 };
-    }
-    let id = wide(body[1]);
+    let id = body[1] as u64;
     Item::Does {
-        act: Act::Begin { id },
+        call: Call::On { id, ask },
         bytes: body.len() + 2,
     }
 }
 
+// Begin, commit and step.
+fn bare_ask(body: &[u8], ask: Ask) -> Item
+    ensures { λ r. ⌜ r ≡ ofLength 2 (now (body .entry)) (onOf (byte (now (body .entry)) 1) ask) ⌝ }
+{
+    if body.len() != 2 {
+        return Item::Stops { refusal: 18 };
+    }
+    on(body, ask)
+}
+
 fn read(body: &[u8]) -> Item
-    requires { ⌜ byte (now body) 0 ≡ 2 ⌝ }
-    ensures { λ r. ⌜ foundOf r ≡ ofKind kinds (now (body .entry)) ⌝ }
+    ensures { λ r. ⌜ r ≡ ofLength 3 (now (body .entry))
+        (onOf (byte (now (body .entry)) 1) (readOf (byte (now (body .entry)) 2))) ⌝ }
 {
     if body.len() != 3 {
         return Item::Stops { refusal: 18 };
     }
-    let id = wide(body[1]);
-    let word = wide(body[2]);
-    Item::Does {
-        act: Act::Read { id, word },
-        bytes: body.len() + 2,
-    }
+    let word = body[2] as u32;
+    on(body, Ask::Read { word })
 }
 
 fn write(body: &[u8]) -> Item
-    requires { ⌜ byte (now body) 0 ≡ 3 ⌝ }
-    ensures { λ r. ⌜ foundOf r ≡ ofKind kinds (now (body .entry)) ⌝ }
+    ensures { λ r. ⌜ r ≡ ofLength 7 (now (body .entry))
+        (onOf (byte (now (body .entry)) 1) (writeOf (byte (now (body .entry)) 2) (fourOf (now (body .entry)) 3))) ⌝ }
 {
     if body.len() != 7 {
         return Item::Stops { refusal: 18 };
     }
-    let id = wide(body[1]);
-    let word = wide(body[2]);
+    let word = body[2] as u32;
     let value = four(body, 3);
-    Item::Does {
-        act: Act::Write { id, word, value },
-        bytes: body.len() + 2,
-    }
-}
-
-fn commit(body: &[u8]) -> Item
-    requires { ⌜ byte (now body) 0 ≡ 4 ⌝ }
-    ensures { λ r. ⌜ foundOf r ≡ ofKind kinds (now (body .entry)) ⌝ }
-{
-    if body.len() != 2 {
-        return Item::Stops { refusal: 18 };
-    }
-    let id = wide(body[1]);
-    Item::Does {
-        act: Act::Commit { id },
-        bytes: body.len() + 2,
-    }
-}
-
-fn step(body: &[u8]) -> Item
-    requires { ⌜ byte (now body) 0 ≡ 5 ⌝ }
-    ensures { λ r. ⌜ foundOf r ≡ ofKind kinds (now (body .entry)) ⌝ }
-{
-    if body.len() != 2 {
-        return Item::Stops { refusal: 18 };
-    }
-    let id = wide(body[1]);
-    Item::Does {
-        act: Act::Step { id },
-        bytes: body.len() + 2,
-    }
+    on(body, Ask::Write { word, value })
 }
 
 fn flush(body: &[u8]) -> Item
-    requires { ⌜ byte (now body) 0 ≡ 6 ⌝ }
-    ensures { λ r. ⌜ foundOf r ≡ ofKind kinds (now (body .entry)) ⌝ }
+    ensures { λ r. ⌜ r ≡ ofLength 2 (now (body .entry)) (sysOf (flushOf (byte (now (body .entry)) 1))) ⌝ }
 {
     if body.len() != 2 {
         return Item::Stops { refusal: 18 };
     }
-    let word = wide(body[1]);
+    let word = body[1] as u32;
     Item::Does {
-        act: Act::Flush { word },
+        call: Call::Of {
+            sys: Sys::Flush { word },
+        },
         bytes: body.len() + 2,
     }
 }
 
-fn crash(body: &[u8]) -> Item
-    requires { ⌜ byte (now body) 0 ≡ 7 ⌝ }
-    ensures { λ r. ⌜ foundOf r ≡ ofKind kinds (now (body .entry)) ⌝ }
+// A crash, or a line of recovery.
+fn bare(body: &[u8], sys: Sys) -> Item
+    ensures { λ r. ⌜ r ≡ ofLength 1 (now (body .entry)) (sysOf sys) ⌝ }
 {
     if body.len() != 1 {
         return Item::Stops { refusal: 18 };
     }
     Item::Does {
-        act: Act::Crash,
-        bytes: body.len() + 2,
-    }
-}
-
-fn recover(body: &[u8]) -> Item
-    requires { ⌜ byte (now body) 0 ≡ 8 ⌝ }
-    ensures { λ r. ⌜ foundOf r ≡ ofKind kinds (now (body .entry)) ⌝ }
-{
-    if body.len() != 1 {
-        return Item::Stops { refusal: 18 };
-    }
-    Item::Does {
-        act: Act::Recover,
+        call: Call::Of { sys },
         bytes: body.len() + 2,
     }
 }

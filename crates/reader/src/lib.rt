@@ -3,13 +3,13 @@ mod decode;
 pub mod place;
 pub mod trace;
 
-use dtml::Act;
+use dtml::Call;
 
-// What stands at a place of the trace: its end, a record that is refused, or one of so many bytes, its length bytes among them, with what it asks.
+// What stands at a place of the trace: its end, a record that is refused, or one of so many bytes, its length bytes among them, with its call.
 pub enum Item {
     End,
     Stops { refusal: u64 },
-    Does { act: Act, bytes: usize },
+    Does { call: Call, bytes: usize },
 }
 
 // What stands at a place, and the place after it: past a record that asks for something; else there is nothing to go past, and it is the same place.

@@ -5,7 +5,7 @@ use crate::trace::seen_at;
 ghost use mathlib.Core.Path.{_≡_};
 ghost use lib.ListN.{drop};
 ghost use Rattle.reader.specs.Trace.{found};
-ghost use Rattle.reader.specs.Said.{foundOf, placeAfter, movedOn};
+ghost use Rattle.reader.specs.Said.{placeAfter, movedOn};
 
 // The reader of a trace: the bytes that it reads and its place.
 pub struct Reader<'a> {
@@ -21,7 +21,7 @@ pub struct Read<'a> {
 
 // What stands at the reader's place, and the reader moved on.
 pub fn next<'a>(reader: Reader<'a>) -> Read<'a>
-    ensures { λ r. ⌜ (foundOf (r .item) ≡ found (drop (reader .entry .at) (now (reader .entry .trace))))
+    ensures { λ r. ⌜ (r .item ≡ found (drop (reader .entry .at) (now (reader .entry .trace))))
         × (r .reader ≡ movedOn (reader .entry)) ⌝ }
 {
     let seen = seen_at(reader.trace, reader.at);
@@ -36,7 +36,7 @@ pub fn next<'a>(reader: Reader<'a>) -> Read<'a>
 
 // The same for a caller that has the bytes and the place apart.
 pub fn read_at(trace: &[u8], at: usize) -> Seen
-    ensures { λ r. ⌜ (foundOf (r .item) ≡ found (drop at (now (trace .entry))))
+    ensures { λ r. ⌜ (r .item ≡ found (drop at (now (trace .entry))))
         × (r .after ≡ placeAfter at (found (drop at (now (trace .entry))))) ⌝ }
 {
     let read = next(Reader { trace, at });

@@ -7,7 +7,7 @@ use crate::decode::two;
 ghost use mathlib.Core.Path.{_≡_};
 ghost use lib.ListN.{drop};
 ghost use Rattle.reader.specs.Trace.{found};
-ghost use Rattle.reader.specs.Said.{foundOf, placeAfter, headerOf};
+ghost use Rattle.reader.specs.Said.{placeAfter, headerOf};
 
 fn refused(number: u64) -> Header
     ensures { λ r. ⌜ r ≡ record { refusal = number; words = 0 } ⌝ }
@@ -48,7 +48,7 @@ pub fn header(trace: &[u8]) -> Header
 
 // The record at a place; past the trace's end there is none.
 fn item_at(trace: &[u8], at: usize) -> Item
-    ensures { λ r. ⌜ foundOf r ≡ found (drop at (now (trace .entry))) ⌝ }
+    ensures { λ r. ⌜ r ≡ found (drop at (now (trace .entry))) ⌝ }
 {
     if trace.len() <= at {
         return Item::End;
@@ -72,7 +72,7 @@ fn item_at(trace: &[u8], at: usize) -> Item
 
 // The same with the place after it.
 pub(crate) fn seen_at(trace: &[u8], at: usize) -> Seen
-    ensures { λ r. ⌜ (foundOf (r .item) ≡ found (drop at (now (trace .entry)))) × (r .after ≡ placeAfter at (found (drop at (now (trace .entry))))) ⌝ }
+    ensures { λ r. ⌜ (r .item ≡ found (drop at (now (trace .entry)))) × (r .after ≡ placeAfter at (found (drop at (now (trace .entry))))) ⌝ }
 {
     let item = item_at(trace, at);
     let after = match item {

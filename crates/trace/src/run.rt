@@ -4,60 +4,87 @@ use crate::finish::nothing;
 use crate::finish::over;
 use day::Replayed;
 use day::Totals;
-use doing::carry_out;
-use doing::reaches_all;
-use doing::slot;
-use dtml::Act;
 use dtml::Answer;
+use dtml::Ask;
+use dtml::Call;
 use dtml::Recovery;
+use dtml::Sys;
 use dtml::Tx;
+use lines::call_one;
 use machine::Held;
 use machine::work::blank;
+use machine::work::place_of;
 use marks::Marks;
 use parts::answer::number;
 use parts::answer::value;
 use reader::Item;
 use reader::place::Reader;
 use reader::place::next;
+use stages::not_idle;
+use system::Event;
+use system::call_system;
 use system::crash_tx;
-use tally::committed_in;
-use tally::crashes_in;
-use tally::cut_in;
-use tally::lines_in;
 use text::put_answer;
+use turn::Turn;
 ghost use Prim.Native.Nat.{_+_, _≤_, _<_};
 ghost use mathlib.Core.Path.{_≡_};
 ghost use mathlib.Core.Bool.{true, false};
 ghost use lib.ListN.{length, replicate};
-ghost use lib.Dec.{eqb};
-ghost use Rattle.bits.specs.Marks.{pick};
-ghost use Rattle.dtml.specs.Table.{reply};
+ghost use lib.Dec.{eqb, leb};
+ghost use Rattle.bits.specs.Marks.{pick, countOf};
+ghost use Rattle.dtml.specs.Table.{reply, says};
 ghost use Rattle.dtml.specs.declared.Phase.the-variants.{Fresh};
-ghost use Rattle.dtml.specs.Store.{fresh, tx as txOf};
+ghost use Rattle.dtml.specs.Store.{memory, store, fresh, tx as txOf};
 ghost use Rattle.dtml.specs.Lines.{crashTxs};
-ghost use Rattle.dtml.specs.Counting.{linesIn};
+ghost use Rattle.dtml.specs.Checks.{notIdle};
+ghost use Rattle.dtml.specs.Counting.{committedIn};
 ghost use Rattle.machine.specs.Given.{storeOf};
-ghost use Rattle.dtml.specs.Acts.{callOf};
 ghost use Rattle.reader.specs.Trace.{scriptOf};
-ghost use Rattle.reader.specs.Said.{foundOf};
 ghost use Rattle.text.specs.Buffer.{buffer, puts};
-ghost use Rattle.day.specs.Replay.{totals as totalsFrom, answerText, endText, done as doneOf};
+ghost use Rattle.text.specs.Text.{answerLine};
+ghost use Rattle.day.specs.Replay.{totals as totalsFrom, answerText, done as doneOf};
 ghost use Rattle.day.specs.Ends.{Ends};
-ghost use Rattle.day.specs.Counted.{counted as countedOf, Few};
-ghost use Rattle.trace.specs.Turning.{slotAt, memoryOf, turnOf, momentOf, OneLineAt, Brief};
+ghost use Rattle.day.specs.Counted.{Few};
+ghost use Rattle.dtml.specs.Asked.{on, sys as sysAsked};
+ghost use Rattle.trace.specs.Turning.{slotAt, callMoment, turnOf, OneLine, OneLineAt, Moves, Followed, onCourse, stillOf};
 
-// The numbers of the T line after one record more, which found recovery and the marks so.
-fn counted(totals: Totals, recovery: Recovery, marks: Marks, act: Act, answer: Answer) -> Totals
-    requires { ⌜ Few 65536 totals × (linesIn (callOf act) (reply answer) ≤ 1) ⌝ }
-    ensures { λ r. ⌜ r ≡ countedOf totals recovery marks (callOf act) (reply answer) ⌝ }
+// The numbers of the T line after a call on a record.
+fn turned(totals: Totals, answer: Answer) -> Totals
+    requires { ⌜ Few 65536 totals ⌝ }
+    ensures { λ r. ⌜ r ≡ totalsFrom (totals .records + 1) (totals .crashes) (totals .lines) (totals .cut) (totals .committed + pick (eqb (reply answer .number) 4) 1 0) ⌝ }
+{
+    let more = if number(answer) == 4 { 1 } else { 0 };
+    Totals {
+        records: totals.records + 1,
+        crashes: totals.crashes,
+        lines: totals.lines,
+        cut: totals.cut,
+        committed: totals.committed + more,
+    }
+}
+
+// After a call on none: a crash, some recovery lines, words that a crash cut off.
+fn added(totals: Totals, crashes: u64, lines: u64, cut: u64) -> Totals
+    requires { ⌜ Few 65536 totals × (crashes ≤ 1) × (lines ≤ 1) × (cut ≤ 256) ⌝ }
+    ensures { λ r. ⌜ r ≡ totalsFrom (totals .records + 1) (totals .crashes + crashes) (totals .lines + lines) (totals .cut + cut) (totals .committed) ⌝ }
 {
     Totals {
         records: totals.records + 1,
-        crashes: totals.crashes + crashes_in(act),
-        lines: totals.lines + lines_in(act, answer),
-        cut: totals.cut + cut_in(act, recovery, marks),
-        committed: totals.committed + committed_in(answer),
+        crashes: totals.crashes + crashes,
+        lines: totals.lines + lines,
+        cut: totals.cut + cut,
+        committed: totals.committed,
     }
+}
+
+// The words in the log, which a crash cuts off, unless recovery was under way already.
+fn cut_by_crash(recovery: Recovery, marks: &Marks) -> u64
+    ensures { λ r. ⌜ (r ≡ pick (notIdle recovery) 0 (countOf (now (marks .entry)))) × (r ≤ 256) ⌝ }
+{
+    if not_idle(recovery) {
+        return 0;
+    }
+    marks::count(marks)
 }
 
 // The line of a record that was answered other than 0.
@@ -71,6 +98,15 @@ fn put_answer_if(out: &mut [u8], at: usize, record_number: u64, answer: Answer) 
         return at;
     }
     put_answer(out, at, record_number, n, value(answer))
+}
+
+// The line of a record that was refused.
+fn put_refusal(out: &mut [u8], at: usize, record_number: u64, answer: Answer) -> usize
+    requires { ⌜ (record_number < 100000) × (leb 9 (reply answer .number) ≡ true) ⌝ }
+    ensures { λ r. ⌜ (buffer (now (out .exit)) r ≡ puts (buffer (now (out .entry)) at) (answerText record_number (reply answer)))
+        × (length (answerText record_number (reply answer)) ≤ 30) ⌝ }
+{
+    put_answer(out, at, record_number, number(answer), value(answer))
 }
 
 // What a crash leaves of the records.
@@ -87,156 +123,275 @@ fn crash_txs(txs: [Tx; 64]) -> [Tx; 64]
     next
 }
 
-// How far a replay has come: what the store holds beside its rows, the numbers of the T line, and how long the text is. It goes on, or the trace has ended,
-// or a record is refused.
+// How far a replay has come: the count, the numbers of the T line, and how long the text is. It goes on, or the trace has ended, or a record is refused.
 pub(crate) struct Course {
-    pub held: Held,
+    pub glb: u32,
     pub totals: Totals,
     pub place: usize,
     pub going: bool,
     pub refusal: u64,
 }
 
-// What one item leaves: how far the replay has come, the record that was handed over, and whether a crash reached the others.
+// What one item leaves: how far the replay has come, the record that was handed over and recovery, and which of them were changed; a crash reaches every record.
 pub(crate) struct Moved {
     pub course: Course,
     pub tx: Tx,
-    pub cut: bool,
+    pub recovery: Recovery,
+    pub turned: bool,
+    pub healed: bool,
+    pub crashed: bool,
 }
 
-fn first(held: Held) -> Course
-    ensures { λ r. ⌜ r ≡ record { held = held; totals = totalsFrom 0 0 0 0 0; place = 0; going = true; refusal = 0 } ⌝ }
+// What all items leave.
+pub(crate) struct Run {
+    pub course: Course,
+    pub recovery: Recovery,
+    pub txs: [Tx; 64],
+}
+
+fn first() -> Course
+    ensures { λ r. ⌜ r ≡ onCourse 0 (totalsFrom 0 0 0 0 0) 0 ⌝ }
 {
     let totals = nothing();
+    going_on(0, totals, 0)
+}
+
+fn idle() -> Recovery
+    ensures { λ r. ⌜ r ≡ Recovery.Idle ⌝ }
+{
+    Recovery::Idle
+}
+
+// After a record.
+fn going_on(glb: u32, totals: Totals, place: usize) -> Course
+    ensures { λ r. ⌜ r ≡ onCourse glb totals place ⌝ }
+{
     Course {
-        held,
+        glb,
         totals,
-        place: 0,
+        place,
         going: true,
         refusal: 0,
     }
 }
 
+// Neither the record nor recovery is changed.
+fn still(course: Course, recovery: Recovery, tx: Tx) -> Moved
+    ensures { λ r. ⌜ r ≡ stillOf course recovery tx ⌝ }
+{
+    Moved {
+        course,
+        tx,
+        recovery,
+        turned: false,
+        healed: false,
+        crashed: false,
+    }
+}
+
+// The record is changed.
+fn went(course: Course, recovery: Recovery, tx: Tx) -> Moved
+    ensures { λ r. ⌜ r ≡ record { course = course; tx = tx; recovery = recovery; turned = true; healed = false; crashed = false } ⌝ }
+{
+    Moved {
+        course,
+        tx,
+        recovery,
+        turned: true,
+        healed: false,
+        crashed: false,
+    }
+}
+
+// Recovery is changed.
+fn healed(course: Course, recovery: Recovery, tx: Tx, crashed: bool) -> Moved
+    ensures { λ r. ⌜ r ≡ record { course = course; tx = tx; recovery = recovery; turned = false; healed = true; crashed = crashed } ⌝ }
+{
+    Moved {
+        course,
+        tx,
+        recovery,
+        turned: false,
+        healed: true,
+        crashed,
+    }
+}
+
+// No record more is done.
+fn stop(course: Course, recovery: Recovery, tx: Tx, refusal: u64) -> Moved
+    ensures { λ r. ⌜ r ≡ stillOf (record { glb = course .glb; totals = course .totals; place = course .place; going = false; refusal = refusal }) recovery tx ⌝ }
+{
+    let totals = course.totals;
+    let over = Course {
+        glb: course.glb,
+        totals,
+        place: course.place,
+        going: false,
+        refusal,
+    };
+    still(over, recovery, tx)
+}
+
 // The record that an item names; where it names none, record 0 is handed over, and stays.
 fn slot_of(item: Item) -> usize
-    ensures { λ r. ⌜ (r ≡ slotAt (foundOf item)) × (r < 64) ⌝ }
+    ensures { λ r. ⌜ (r ≡ slotAt item) × (r < 64) ⌝ }
 {
     match item {
-        Item::Does { act, .. } => slot(act),
+        Item::Does { call, .. } => match call {
+            Call::On { id, .. } => place_of(id),
+            Call::Of { .. } => 0,
+        },
         Item::Stops { .. } => 0,
         Item::End => 0,
     }
 }
 
-// No record more is done.
-fn stop(course: Course, tx: Tx, refusal: u64) -> Moved
-    ensures { λ r. ⌜ r ≡ record { course = record { held = course .held; totals = course .totals; place = course .place; going = false; refusal = refusal }; tx = tx; cut = false } ⌝ }
+// A call on a record is done on what it is handed, counted, and its line put.
+fn on_record(
+    vol: &mut [u32],
+    pers: &mut [u32],
+    old: &mut [u32],
+    marks: &mut Marks,
+    out: &mut [u8],
+    course: Course,
+    recovery: Recovery,
+    tx: Tx,
+    id: u64,
+    ask: Ask,
+) -> Moved
+    requires { ⌜ Few 65536 (course .totals) ⌝ }
+    ensures { λ r. ⌜ Moves r (memory (now (vol .exit)) (now (pers .exit)) (now (old .exit)) (now (marks .exit)) (r .course .glb)) (now (out .exit)) recovery tx
+        (callMoment (memory (now (vol .entry)) (now (pers .entry)) (now (old .entry)) (now (marks .entry)) (course .glb)) recovery tx course (now (out .entry)) (on id ask)) ⌝ }
 {
-    let held = course.held;
-    let totals = course.totals;
+    let mut glb = course.glb;
+    let before = course.totals;
     let place = course.place;
-    let over = Course {
-        held,
-        totals,
-        place,
-        going: false,
-        refusal,
-    };
-    Moved {
-        course: over,
-        tx,
-        cut: false,
+    let turn = call_one(vol, pers, old, marks, &mut glb, recovery, id, tx, ask);
+    match turn {
+        Turn::Refused { answer } => {
+            let totals = turned(before, answer);
+            let put = put_refusal(out, place, totals.records, answer);
+            still(going_on(glb, totals, put), recovery, tx)
+        }
+        Turn::Went { answer, tx: next } => {
+            let totals = turned(before, answer);
+            let put = put_answer_if(out, place, totals.records, answer);
+            went(going_on(glb, totals, put), recovery, next)
+        }
     }
 }
 
-// After a record.
-fn going_on(marks: Marks, glb: u32, recovery: Recovery, totals: Totals, place: usize) -> Course
-    ensures { λ r. ⌜ r ≡ record { held = record { marks = marks; glb = glb; recovery = recovery }; totals = totals; place = place; going = true; refusal = 0 } ⌝ }
+// The same of a call on none.
+fn on_none(
+    vol: &mut [u32],
+    pers: &mut [u32],
+    old: &[u32],
+    marks: &mut Marks,
+    out: &mut [u8],
+    course: Course,
+    recovery: Recovery,
+    tx: Tx,
+    sys: Sys,
+) -> Moved
+    requires { ⌜ Few 65536 (course .totals) × OneLine (sysAsked sys) ⌝ }
+    ensures { λ r. ⌜ Moves r (memory (now (vol .exit)) (now (pers .exit)) (now (old .entry)) (now (marks .exit)) (r .course .glb)) (now (out .exit)) recovery tx
+        (callMoment (memory (now (vol .entry)) (now (pers .entry)) (now (old .entry)) (now (marks .entry)) (course .glb)) recovery tx course (now (out .entry)) (sysAsked sys)) ⌝ }
 {
-    let held = Held {
-        marks,
-        glb,
-        recovery,
-    };
-    Course {
-        held,
-        totals,
-        place,
-        going: true,
-        refusal: 0,
+    let mut glb = course.glb;
+    let before = course.totals;
+    let place = course.place;
+    let event = call_system(vol, pers, old, marks, &mut glb, recovery, sys);
+    match event {
+        Event::Refused { answer } => {
+            let totals = added(before, 0, 0, 0);
+            let put = put_refusal(out, place, totals.records, answer);
+            still(going_on(glb, totals, put), recovery, tx)
+        }
+        Event::Flushed => still(going_on(glb, added(before, 0, 0, 0), place), recovery, tx),
+        Event::Crashed => {
+            let totals = added(before, 1, 0, cut_by_crash(recovery, &*marks));
+            healed(going_on(glb, totals, place), Recovery::C1, tx, true)
+        }
+        Event::Healed {
+            answer,
+            lines,
+            recovery: next,
+        } => {
+            let totals = added(before, 0, lines, 0);
+            let put = put_answer_if(out, place, totals.records, answer);
+            healed(going_on(glb, totals, put), next, tx, false)
+        }
     }
 }
 
-// One item of the trace: a record is done on what it is handed, counted, and its line put.
+// One item of the trace.
 fn turn(
     vol: &mut [u32],
     pers: &mut [u32],
     old: &mut [u32],
+    marks: &mut Marks,
     out: &mut [u8],
     course: Course,
+    recovery: Recovery,
     tx: Tx,
     item: Item,
 ) -> Moved
-    requires { ⌜ Few 65536 (course .totals) × OneLineAt (foundOf item) ⌝ }
-    ensures { λ r. ⌜ (momentOf r (now (vol .exit)) (now (pers .exit)) (now (old .exit)) (now (out .exit))
-        ≡ turnOf (memoryOf (now (vol .entry)) (now (pers .entry)) (now (old .entry)) course) tx course (now (out .entry)) (foundOf item))
-        × Brief (memoryOf (now (vol .entry)) (now (pers .entry)) (now (old .entry)) course) tx course (foundOf item) ⌝ }
+    requires { ⌜ Few 65536 (course .totals) × OneLineAt item ⌝ }
+    ensures { λ r. ⌜ Moves r (memory (now (vol .exit)) (now (pers .exit)) (now (old .exit)) (now (marks .exit)) (r .course .glb)) (now (out .exit)) recovery tx
+        (turnOf (memory (now (vol .entry)) (now (pers .entry)) (now (old .entry)) (now (marks .entry)) (course .glb)) recovery tx course (now (out .entry)) item) ⌝ }
 {
     match item {
-        Item::Does { act, .. } => {
-            let held = course.held;
-            let mut marks = held.marks;
-            let mut glb = held.glb;
-            let recovery = held.recovery;
-            let log = marks;
-            let before = course.totals;
-            let place = course.place;
-            let done = carry_out(vol, pers, old, &mut marks, &mut glb, recovery, tx, act);
-            let answer = done.answer;
-            let totals = counted(before, recovery, log, act, answer);
-            let put = put_answer_if(out, place, totals.records, answer);
-            let healed = done.recovery;
-            let turned = done.tx;
-            let on = going_on(marks, glb, healed, totals, put);
-            let cut = reaches_all(act);
-            Moved {
-                course: on,
-                tx: turned,
-                cut,
-            }
-        }
-        Item::Stops { refusal } => stop(course, tx, refusal),
-        Item::End => stop(course, tx, 0),
+        Item::Does { call, .. } => match call {
+            Call::On { id, ask } => on_record(vol, pers, old, marks, out, course, recovery, tx, id, ask),
+            Call::Of { sys } => on_none(vol, pers, &*old, marks, out, course, recovery, tx, sys),
+        },
+        Item::Stops { refusal } => stop(course, recovery, tx, refusal),
+        Item::End => stop(course, recovery, tx, 0),
     }
 }
 
-fn finished(out: &mut [u8], course: Course, rows: [Tx; 64]) -> Replayed
-    requires { ⌜ course .totals .records < 65536 ⌝ }
-    ensures { λ r. ⌜ (r ≡ record { ended = r .ended; changed = true; txs = rows })
-        × (r .ended ≡ record { refusal = course .refusal; number = pick (eqb (course .refusal) 0) 0 (course .totals .records + 1); totals = course .totals; length = r .ended .length; held = course .held })
-        × (buffer (now (out .exit)) (r .ended .length)
-        ≡ puts (buffer (now (out .entry)) (course .place)) (endText (course .refusal) (pick (eqb (course .refusal) 0) 0 (course .totals .records + 1)) (course .totals))) ⌝ }
+// The loop holds the reader, which moves on past each record.
+fn follow(
+    trace: &[u8],
+    vol: &mut [u32],
+    pers: &mut [u32],
+    old: &mut [u32],
+    marks: &mut Marks,
+    out: &mut [u8],
+) -> Run
+    requires { ⌜ (store (memory (now vol) (now pers) (now old) (now marks) 0) Recovery.Idle (replicate 64 (txOf 0 Fresh)) ≡ fresh (length (now vol)))
+        × (1 ≤ length (now vol)) × (length (now vol) ≤ 256) × (3 ≤ length (now trace)) × (length (now trace) ≤ 65536) ⌝ }
+    ensures { λ r. ⌜ Followed (doneOf (length (now (vol .entry))) (scriptOf (now (trace .entry)))) r
+        (memory (now (vol .exit)) (now (pers .exit)) (now (old .exit)) (now (marks .exit)) (r .course .glb)) (now (out .entry)) (now (out .exit)) ⌝ }
 {
-    let held = course.held;
-    let marks = held.marks;
-    let glb = held.glb;
-    let recovery = held.recovery;
-    let totals = course.totals;
-    changed(
-        over(
-            out,
-            course.place,
-            course.refusal,
-            totals,
-            marks,
-            glb,
-            recovery,
-        ),
-        rows,
-    )
+    let mut course = first();
+    let mut recovery = idle();
+    let mut rows = blank();
+    let mut reader = Reader { trace, at: 3 };
+    while course.going {
+        let read = next(reader);
+        let i = slot_of(read.item);
+        let done = turn(vol, pers, old, marks, out, course, recovery, rows[i], read.item);
+        course = done.course;
+        reader = read.reader;
+        if done.turned {
+            rows[i] = done.tx;
+        } else {
+            if done.healed {
+                recovery = done.recovery;
+                if done.crashed {
+                    rows = crash_txs(rows);
+                }
+            }
+        }
+    }
+    Run {
+        course,
+        recovery,
+        txs: rows,
+    }
 }
 
-// The loop holds the reader, which moves on past each record.
 pub(crate) fn run(
     trace: &[u8],
     vol: &mut [u32],
@@ -250,19 +405,22 @@ pub(crate) fn run(
     ensures { λ r. ⌜ Ends (doneOf (length (now (vol .entry))) (scriptOf (now (trace .entry)))) (r .ended) (now (vol .exit)) (now (pers .exit)) (now (old .exit)) (r .txs) (now (out .entry)) (now (out .exit))
         × (r .changed ≡ true) ⌝ }
 {
-    let mut course = first(held);
-    let mut rows = blank();
-    let mut reader = Reader { trace, at: 3 };
-    while course.going {
-        let read = next(reader);
-        let i = slot_of(read.item);
-        let done = turn(vol, pers, old, out, course, rows[i], read.item);
-        rows[i] = done.tx;
-        course = done.course;
-        reader = read.reader;
-        if done.cut {
-            rows = crash_txs(rows);
-        }
-    }
-    finished(out, course, rows)
+    let mut marks = held.marks;
+    let done = follow(trace, vol, pers, old, &mut marks, out);
+    let course = done.course;
+    let recovery = done.recovery;
+    let txs = done.txs;
+    let totals = course.totals;
+    changed(
+        over(
+            out,
+            course.place,
+            course.refusal,
+            totals,
+            marks,
+            course.glb,
+            recovery,
+        ),
+        txs,
+    )
 }

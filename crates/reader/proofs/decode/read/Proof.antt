@@ -1,50 +1,24 @@
--- `reader::decode::read` meets its contract: the body's first byte leads to the kind's row of the table, and the test of the length is the row's.
-use native.Mathlib.Nat.{add-comm}
+-- `reader::decode::read` meets its contract: the test of the length is that of `ofLength`; a byte is below 256, so it fits.
+use native.Mathlib.Omega.{arith}
 use borrow.Author.Needs.{needs}
 use borrow.Author.Tests.{eq-eqb, ne-eqb}
-use Rattle.reader.specs.Trace.{ofKind}
 use Rattle.reader.proofs.decode.read.Statement.{statement}
 use Rattle.reader.proofs.decode.read.Tie as tie
 
 returns : tie.Need-returns
-unfolding ofKind
-returns c = rw (c .before .before .pre, ne-eqb _ _ (c .if1 .taken))
+returns c = rw (ne-eqb _ _ (c .if1 .taken))
 
-shared-slice-read-wide : tie.Need-shared-slice-read-wide
-shared-slice-read-wide c = search needs
+shared-slice-read-word : tie.Need-shared-slice-read-word
+shared-slice-read-word c = search needs
 
-wide-requires : tie.Need-wide-requires
-wide-requires c κs = search needs
+cast-word : tie.Need-cast-word
+cast-word c = omega (arith, c .shared-slice-known2 .given 2)
 
-shared-slice-read-wide-2 : tie.Need-shared-slice-read-wide-2
-shared-slice-read-wide-2 c = search needs
-
-wide-requires-2 : tie.Need-wide-requires-2
-wide-requires-2 c κs = search needs
-
-add-t10 : tie.Need-add-t10
-add-t10 c = search needs
+on-requires : tie.Need-on-requires
+on-requires c κs = search needs
 
 returns-2 : tie.Need-returns-2
-unfolding ofKind
-returns-2 c =
-    let fits = c .before .before .before .before in
-    rw (
-      fits .before .before .pre,
-      eq-eqb _ _ (fits .if1 .left),
-      c .before .before .wide .ensures,
-      c .wide2 .ensures,
-      add-comm 2,
-    )
+returns-2 c = rw (eq-eqb _ _ (c .before .before .if1 .left)) (c .on .ensures)
 
 pub read-spec : {M : Type 1} → statement M
-read-spec =
-    tie.close
-    (tie.spec
-    returns
-    shared-slice-read-wide
-    wide-requires
-    shared-slice-read-wide-2
-    wide-requires-2
-    add-t10
-    returns-2)
+read-spec = tie.close (tie.spec returns shared-slice-read-word cast-word on-requires returns-2)

@@ -1,4 +1,4 @@
--- `reader::decode::record` meets its contract: each arm has its kind's decoder, and in the last the first byte is the number of no row.
+-- `reader::decode::record` meets its contract: an arm's number leads to the kind's row of the table, and in the last arm the first byte is the number of no row.
 use borrow.Author.Needs.{needs}
 use borrow.Author.Tests.{ne-eqb}
 use Rattle.reader.specs.Trace.{ofKind}
@@ -8,8 +8,8 @@ use Rattle.reader.proofs.decode.record.Tie as tie
 shared-slice-read-match : tie.Need-shared-slice-read-match
 shared-slice-read-match c = search needs
 
-begin-requires : tie.Need-begin-requires
-begin-requires c κs = search needs
+bare-ask-requires : tie.Need-bare-ask-requires
+bare-ask-requires c κs = search needs
 
 read-requires : tie.Need-read-requires
 read-requires c κs = search needs
@@ -17,44 +17,52 @@ read-requires c κs = search needs
 write-requires : tie.Need-write-requires
 write-requires c κs = search needs
 
-commit-requires : tie.Need-commit-requires
-commit-requires c κs = search needs
+bare-ask-requires-2 : tie.Need-bare-ask-requires-2
+bare-ask-requires-2 c κs = search needs
 
-step-requires : tie.Need-step-requires
-step-requires c κs = search needs
+bare-ask-requires-3 : tie.Need-bare-ask-requires-3
+bare-ask-requires-3 c κs = search needs
 
 flush-requires : tie.Need-flush-requires
 flush-requires c κs = search needs
 
-crash-requires : tie.Need-crash-requires
-crash-requires c κs = search needs
+bare-requires : tie.Need-bare-requires
+bare-requires c κs = search needs
 
-recover-requires : tie.Need-recover-requires
-recover-requires c κs = search needs
+bare-requires-2 : tie.Need-bare-requires-2
+bare-requires-2 c κs = search needs
 
 returns : tie.Need-returns
-returns c = search needs
+unfolding ofKind
+returns c = rw (c .before .match .keys1) (c .bare-ask .ensures)
 
 returns-2 : tie.Need-returns-2
-returns-2 c = search needs
+unfolding ofKind
+returns-2 c = rw (c .before .match .keys2) (c .read .ensures)
 
 returns-3 : tie.Need-returns-3
-returns-3 c = search needs
+unfolding ofKind
+returns-3 c = rw (c .before .match .keys3) (c .write .ensures)
 
 returns-4 : tie.Need-returns-4
-returns-4 c = search needs
+unfolding ofKind
+returns-4 c = rw (c .before .match .keys4) (c .bare-ask2 .ensures)
 
 returns-5 : tie.Need-returns-5
-returns-5 c = search needs
+unfolding ofKind
+returns-5 c = rw (c .before .match .keys5) (c .bare-ask3 .ensures)
 
 returns-6 : tie.Need-returns-6
-returns-6 c = search needs
+unfolding ofKind
+returns-6 c = rw (c .before .match .keys6) (c .flush .ensures)
 
 returns-7 : tie.Need-returns-7
-returns-7 c = search needs
+unfolding ofKind
+returns-7 c = rw (c .before .match .keys7) (c .bare .ensures)
 
 returns-8 : tie.Need-returns-8
-returns-8 c = search needs
+unfolding ofKind
+returns-8 c = rw (c .before .match .keys8) (c .bare2 .ensures)
 
 returns-9 : tie.Need-returns-9
 unfolding ofKind
@@ -83,14 +91,14 @@ record-spec =
     tie.close
     (tie.spec
     shared-slice-read-match
-    begin-requires
+    bare-ask-requires
     read-requires
     write-requires
-    commit-requires
-    step-requires
+    bare-ask-requires-2
+    bare-ask-requires-3
     flush-requires
-    crash-requires
-    recover-requires
+    bare-requires
+    bare-requires-2
     returns
     returns-2
     returns-3

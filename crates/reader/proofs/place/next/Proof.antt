@@ -41,8 +41,8 @@ use denote.Triple.Table.{entered, cited}
 use denote.Triple.Walked.{says, Stays, stay-none, walkOf, goes-none, Walks, ends-at, walked, walk-meets}
 use denote.Exit.{yes}
 use denote.Triple.Clauses.{ensured, lasts}
-use Rattle.reader.specs.Trace.{Found, found as foundIn}
-use Rattle.reader.specs.Said.{foundOf, placeAfter}
+use Rattle.reader.specs.Trace.{Item, found as foundIn}
+use Rattle.reader.specs.Said.{placeAfter}
 use Rattle.reader.specs.declared.place.Reader.{Reader}
 use Rattle.reader.specs.declared.place.Read.{Read}
 use Rattle.reader.specs.declared.Seen.{Seen}
@@ -82,7 +82,7 @@ module _ {M : Type 1} (𝓤 : URA M) (H : Heap 𝓤) (A : Atoms 𝓤) (W : Given
   abbrev v : Val
   v = sliceVal (d .trace .ptr) (length (d .trace .now))
 
-  abbrev found : Found
+  abbrev found : Item
   found = foundIn (after (d .at) (now (d .trace)))
 
   abbrev Post : Val → SProp 𝓤
@@ -123,7 +123,7 @@ module _ {M : Type 1} (𝓤 : URA M) (H : Heap 𝓤) (A : Atoms 𝓤) (W : Given
 
   -- what the callee promises: what stands there, and the place after it
   abbrev Says : Seen → Type 0
-  Says r = (foundOf (r .item) ≡ found) × (r .after ≡ placeAfter (d .at) found)
+  Says r = (r .item ≡ found) × (r .after ≡ placeAfter (d .at) found)
 
   -- of the callee's promise, the fact alone: it has no `&mut`, so what is said of last values is dropped
   said : (r : Seen) → ent 𝓤 (ensured 𝓤 H A seen.ended (seen.clauses 𝓤 H A mem run) (κ, tt) (d .trace, (d .at, tt)) tt r) (fact 𝓤 (Says r))

@@ -38,8 +38,8 @@ use denote.Triple.Table.{entered, cited}
 use denote.Triple.Walked.{says, Stays, stay-none, stay-none-slice, walkOf, goes-none, goes-none-slice, Walks, ends-at, walked, walk-meets}
 use denote.Exit.{yes}
 use denote.Triple.Clauses.{ensured, lasts}
-use Rattle.reader.specs.Trace.{Found, found as foundIn}
-use Rattle.reader.specs.Said.{foundOf, movedOn}
+use Rattle.reader.specs.Trace.{Item, found as foundIn}
+use Rattle.reader.specs.Said.{movedOn}
 use Rattle.reader.specs.declared.place.Reader.{Reader}
 use Rattle.reader.specs.declared.place.Read.{Read}
 use Rattle.reader.specs.declared.Seen.{Seen}
@@ -87,7 +87,7 @@ module _ {M : Type 1} (𝓤 : URA M) (H : Heap 𝓤) (A : Atoms 𝓤) (W : Given
   abbrev mach : Val
   mach = T′.lowered d
 
-  abbrev found : Found
+  abbrev found : Item
   found = foundIn (after n (now s))
 
   abbrev Post : Val → SProp 𝓤
@@ -115,7 +115,7 @@ module _ {M : Type 1} (𝓤 : URA M) (H : Heap 𝓤) (A : Atoms 𝓤) (W : Given
 
   -- what the callee promises
   abbrev Says : Read → Type 0
-  Says r = (foundOf (r .item) ≡ found) × (r .reader ≡ movedOn d)
+  Says r = (r .item ≡ found) × (r .reader ≡ movedOn d)
 
   said : (r : Read) → ent 𝓤 (ensured 𝓤 H A next.ended (next.clauses 𝓤 H A mem run) (κ, tt) (d, tt) tt r) (fact 𝓤 (Says r))
   said r = exE 𝓤 _ (λ ws. snd∗ 𝓤 (sem 𝓤 H A (lasts next.ended (κ, tt) (d, tt) ws)) (fact 𝓤 (Says r)))

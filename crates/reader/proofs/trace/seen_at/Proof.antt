@@ -3,7 +3,7 @@ use mathlib.Core.Path.{sym, ap, _∙_}
 use native.Mathlib.Omega.{arith}
 use borrow.Author.Needs.{needs}
 use denote.Ref.{now}
-use Rattle.reader.specs.Said.{foundOf, placeAfter}
+use Rattle.reader.specs.Said.{placeAfter}
 use Rattle.reader.proofs.Scripts.{after-inside}
 use Rattle.reader.proofs.trace.seen_at.Statement.{statement}
 use Rattle.reader.proofs.trace.seen_at.Tie as tie
@@ -18,7 +18,7 @@ add-after : tie.Need-add-after
 add-after c =
     let here = c .before .before .before in
     let args = here .before .before .args in
-    let z = after-inside (now (args .trace)) (args .at) _ _ (sym (here .item-at .ensures) ∙ ap foundOf (c .before .item .given .1)) in
+    let z = after-inside (now (args .trace)) (args .at) _ _ (sym (here .item-at .ensures) ∙ c .before .item .given .1) in
     omega arith
 
 enum-told : tie.Need-enum-told
@@ -30,7 +30,7 @@ enum-told-2 c = search needs
 returns : tie.Need-returns
 returns c =
     let here = c .before .before .before in
-    let said = sym (ap foundOf (c .before .item .given .1)) ∙ here .item-at .ensures in
+    let said = sym (c .before .item .given .1) ∙ here .item-at .ensures in
     (said, ap (placeAfter (here .before .before .args .at)) said)
 
 returns-2 : tie.Need-returns-2
@@ -38,14 +38,14 @@ returns-2 c =
     let here = c .before .before in
     let at = here .before .before .args .at in
     let said = here .item-at .ensures in
-    (said, ap (λ x. placeAfter at (foundOf x)) (sym (c .enum-told .given .1)) ∙ ap (placeAfter at) said)
+    (said, ap (placeAfter at) (sym (c .enum-told .given .1)) ∙ ap (placeAfter at) said)
 
 returns-3 : tie.Need-returns-3
 returns-3 c =
     let here = c .before .before in
     let at = here .before .before .args .at in
     let said = here .item-at .ensures in
-    (said, ap (λ x. placeAfter at (foundOf x)) (sym (c .enum-told2 .given .1)) ∙ ap (placeAfter at) said)
+    (said, ap (placeAfter at) (sym (c .enum-told2 .given .1)) ∙ ap (placeAfter at) said)
 
 pub seen-at-spec : {M : Type 1} → statement M
 seen-at-spec =
