@@ -1,3 +1,4 @@
--- What the lines' proofs share.
+-- What the proofs share.
+mod Called
 mod Room
 mod Tests

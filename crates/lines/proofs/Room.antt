@@ -8,18 +8,17 @@ use borrow.Author.Tests.{leb-false}
 use lib.Dec.{leb}
 use lib.ListN.{length}
 use Rattle.dtml.specs.declared.Phase.{Phase}
-use Rattle.dtml.specs.declared.Recovery.{Recovery}
+use Rattle.dtml.specs.declared.Recovery.the-variants.{Idle}
 use Rattle.dtml.specs.declared.Tx.{Tx}
-use Rattle.dtml.specs.Checks.{phasePast, unfitOne}
-use Rattle.dtml.proofs.Fit.{fits, tx-fits, one-fits}
+use Rattle.dtml.specs.Checks.{phasePast, unfitBeside, unfitTx}
+use Rattle.dtml.proofs.Fit.{fits, tx-fits}
 use Rattle.lines.specs.Room.{Room}
 
-pub room : (vol pers old : List ℕ) (k : List ℕ) (g : ℕ) (r : Recovery) (t : Tx)
-    → unfitOne (length vol) (length pers) (length old) k g r t ≡ false → Room vol pers old g t
-room vol pers old k g r t h =
-    let parts = one-fits (length vol) (length pers) (length old) k g r t h in
-    let f = fits (length vol) (length pers) (length old) k g r (parts .beside) in
-    let u = tx-fits (length vol) t (parts .own) in
+pub room : (vol pers old : List ℕ) (k : List ℕ) (g : ℕ) (t : Tx)
+    → unfitBeside (length vol) (length pers) (length old) k g Idle ≡ false → unfitTx (length vol) t ≡ false → Room vol pers old g t
+room vol pers old k g t beside own =
+    let f = fits (length vol) (length pers) (length old) k g Idle beside in
+    let u = tx-fits (length vol) t own in
     record {
       pers-long = f .pers-long;
       old-long = f .old-long;

@@ -5,11 +5,12 @@ use mathlib.Core.List.{[], _∷_}
 use lib.Dec.{leb}
 use Rattle.bits.specs.Marks.{pick}
 use Rattle.dtml.specs.declared.Answer.{Answer}
-use Rattle.dtml.specs.declared.Answer.the-variants.{Unfit, NoWord, NoRecord, NotIdle}
+use Rattle.dtml.specs.declared.Answer.the-variants.{Unfit, NoWord, NotIdle}
+use Rattle.dtml.specs.declared.Ask.{Ask}
+use Rattle.dtml.specs.declared.Ask.the-variants.{Begin as begin, Read as read, Write as write, Commit as commit, Step as step}
 use Rattle.dtml.specs.declared.Tx.{Tx}
 use Rattle.dtml.specs.Table.{says}
 use Rattle.dtml.specs.Store.{Memory}
-use Rattle.dtml.specs.Asked.{Ask, begin, read, write, commit, step}
 use Rattle.dtml.specs.Lines.{stage, line}
 use Rattle.dtml.specs.First.{_⇒_, first}
 use Rattle.dtml.specs.Checks.{isAtLine}
@@ -27,6 +28,6 @@ askPast n (write w v) = leb n w
 askPast n commit = false
 askPast n step = false
 
--- the refusal of a call while recovery is not idle, by whether what it was handed is unfit, the identifier names no record, and the word is past the rows
-abbrev pub refusalOf : Bool → Bool → Bool → Answer
-refusalOf bad nobody past = pick bad Unfit (pick nobody NoRecord (pick past NoWord NotIdle))
+-- the refusal of a call on a record while recovery is not idle, by whether what it was handed is unfit and the word is past the rows
+abbrev pub refusalOf : Bool → Bool → Answer
+refusalOf bad past = pick bad Unfit (pick past NoWord NotIdle)

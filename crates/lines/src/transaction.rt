@@ -134,7 +134,7 @@ fn e3(glb: &mut u32, loc: u32) -> Turn
     answered(Answer::Committed, loc, Phase::Committed)
 }
 
-// One line, the one at which the record stands; at 15 there is none.
+// One line, the one at which the record stands; where there is none it is refused.
 pub(crate) fn line(
     vol: &mut [u32],
     pers: &mut [u32],

@@ -7,39 +7,39 @@ use lib.Dec.{eqb}
 use Rattle.bits.specs.Marks.{isMarked}
 use Rattle.dtml.specs.Lines.{lineAt, even}
 use Rattle.lines.proofs.Room.{word-in}
-use Rattle.lines.proofs.Tests.{did-pick, did-pick-glb}
+use Rattle.lines.proofs.Tests.{turned-pick, turned-pick-glb}
 use Rattle.lines.proofs.transaction.line.Statement.{statement}
 use Rattle.lines.proofs.transaction.line.Tie as tie
 
 enum-told : tie.Need-enum-told
 enum-told c = search needs
 
-to-requires : tie.Need-to-requires
-to-requires c κs = search needs
+refused-requires : tie.Need-refused-requires
+refused-requires c κs = search needs
 
 enum-told-2 : tie.Need-enum-told-2
 enum-told-2 c = search needs
 
-to-requires-2 : tie.Need-to-requires-2
-to-requires-2 c κs = search needs
+refused-requires-2 : tie.Need-refused-requires-2
+refused-requires-2 c κs = search needs
 
 enum-told-3 : tie.Need-enum-told-3
 enum-told-3 c = search needs
 
-to-requires-3 : tie.Need-to-requires-3
-to-requires-3 c κs = search needs
+refused-requires-3 : tie.Need-refused-requires-3
+refused-requires-3 c κs = search needs
 
 enum-told-4 : tie.Need-enum-told-4
 enum-told-4 c = search needs
 
-to-requires-4 : tie.Need-to-requires-4
-to-requires-4 c κs = search needs
+refused-requires-4 : tie.Need-refused-requires-4
+refused-requires-4 c κs = search needs
 
 enum-told-5 : tie.Need-enum-told-5
 enum-told-5 c = search needs
 
-to-requires-5 : tie.Need-to-requires-5
-to-requires-5 c κs = search needs
+to-requires : tie.Need-to-requires
+to-requires c κs = search needs
 
 enum-told-6 : tie.Need-enum-told-6
 enum-told-6 c = search needs
@@ -79,8 +79,8 @@ enum-known-phase-5 c = search needs
 add-to : tie.Need-add-to
 add-to c = search needs
 
-to-requires-6 : tie.Need-to-requires-6
-to-requires-6 c κs = search needs
+to-requires-2 : tie.Need-to-requires-2
+to-requires-2 c κs = search needs
 
 enum-known-phase-6 : tie.Need-enum-known-phase-6
 enum-known-phase-6 c = search needs
@@ -133,31 +133,27 @@ e3-requires : tie.Need-e3-requires
 e3-requires c κs = search needs
 
 returns : tie.Need-returns
-unfolding lineAt
-returns c = rw (c .before .enum-told .given .1, c .to .ensures)
+returns c = rw (c .before .enum-told .given .1, c .refused .ensures)
 
 returns-2 : tie.Need-returns-2
-unfolding lineAt
-returns-2 c = rw (c .before .enum-told2 .given .1, c .to2 .ensures)
+returns-2 c = rw (c .before .enum-told2 .given .1, c .refused2 .ensures)
 
 returns-3 : tie.Need-returns-3
-unfolding lineAt
-returns-3 c = rw (c .before .enum-told3 .given .1, c .to3 .ensures)
+returns-3 c = rw (c .before .enum-told3 .given .1, c .refused3 .ensures)
 
 returns-4 : tie.Need-returns-4
-unfolding lineAt
-returns-4 c = rw (c .before .enum-told4 .given .1, c .to4 .ensures)
+returns-4 c = rw (c .before .enum-told4 .given .1, c .refused4 .ensures)
 
 returns-5 : tie.Need-returns-5
 unfolding lineAt
-returns-5 c = rw (c .before .before .enum-told5 .given .1, c .to5 .ensures)
+returns-5 c = rw (c .before .before .enum-told5 .given .1, c .to .ensures)
 
 returns-6 : tie.Need-returns-6
 unfolding lineAt
 returns-6 c =
     let at = c .before in
     let given = at .before .before .before .before .before .args in
-    rw (at .enum-told6 .given .1, c .b2 .ensures) (did-pick (even (given .tx .loc)) _ _ _)
+    rw (at .enum-told6 .given .1, c .b2 .ensures) (turned-pick (even (given .tx .loc)) _ _ _ _ _)
 
 same-length : tie.Need-same-length
 same-length c = search needs
@@ -171,32 +167,32 @@ unfolding lineAt
 returns-8 c =
     let at = c .before .before .before in
     let given = at .before .before .before .before .before .args in
-    rw (at .phase2 .given .1, c .r2 .ensures) (did-pick (eqb (given .glb .now) (given .tx .loc)) _ _ _)
+    rw (at .phase2 .given .1, c .r2 .ensures) (turned-pick (eqb (given .glb .now) (given .tx .loc)) _ _ _ _ _)
 
 returns-9 : tie.Need-returns-9
 unfolding lineAt
 returns-9 c =
     let at = c .before .before in
     let given = at .before .before .before .before .before .args in
-    rw (at .phase3 .given .1, c .w1 .ensures) (did-pick (even (given .tx .loc)) _ _ _)
+    rw (at .phase3 .given .1, c .w1 .ensures) (turned-pick (even (given .tx .loc)) _ _ _ _ _)
 
 returns-10 : tie.Need-returns-10
 unfolding lineAt
 returns-10 c =
     let at = c .before .before .before in
     let given = at .before .before .before .before .before .args in
-    rw (at .phase4 .given .1, c .w2 .ensures .0, c .w2 .ensures .1) (did-pick-glb (eqb (given .glb .now) (given .tx .loc)) _ _ _ _ _ _ _ _)
+    rw (at .phase4 .given .1, c .w2 .ensures .0, c .w2 .ensures .1) (turned-pick-glb (eqb (given .glb .now) (given .tx .loc)) _ _ _ _ _ _ _ _ _ _)
 
 returns-11 : tie.Need-returns-11
 unfolding lineAt
-returns-11 c = rw (c .before .before .phase5 .given .1, c .to6 .ensures)
+returns-11 c = rw (c .before .before .phase5 .given .1, c .to2 .ensures)
 
 returns-12 : tie.Need-returns-12
 unfolding lineAt
 returns-12 c =
     let at = c .before .before .before in
     let given = at .before .before .before .before .before .args in
-    rw (at .phase6 .given .1, c .w4 .ensures) (did-pick (isMarked (given .marks .now) (at .phase6 .given .0 .0)) _ _ _)
+    rw (at .phase6 .given .1, c .w4 .ensures) (turned-pick (isMarked (given .marks .now) (at .phase6 .given .0 .0)) _ _ _ _ _)
 
 same-length-2 : tie.Need-same-length-2
 same-length-2 c = search needs
@@ -242,7 +238,7 @@ unfolding lineAt
 returns-16 c =
     let at = c .before in
     let given = at .before .before .before .before .before .args in
-    rw (at .enum-told7 .given .1, c .e1 .ensures) (did-pick (even (given .tx .loc)) _ _ _)
+    rw (at .enum-told7 .given .1, c .e1 .ensures) (turned-pick (even (given .tx .loc)) _ _ _ _ _)
 
 returns-17 : tie.Need-returns-17
 unfolding lineAt
@@ -257,15 +253,15 @@ line-spec =
     tie.close
     (tie.spec
     enum-told
-    to-requires
+    refused-requires
     enum-told-2
-    to-requires-2
+    refused-requires-2
     enum-told-3
-    to-requires-3
+    refused-requires-3
     enum-told-4
-    to-requires-4
+    refused-requires-4
     enum-told-5
-    to-requires-5
+    to-requires
     enum-told-6
     b2-requires
     enum-known-phase
@@ -278,7 +274,7 @@ line-spec =
     w2-requires
     enum-known-phase-5
     add-to
-    to-requires-6
+    to-requires-2
     enum-known-phase-6
     w4-requires
     enum-known-phase-7
