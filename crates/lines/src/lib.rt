@@ -77,17 +77,7 @@ pub fn call_one(
         ≡ callOne (memory (now (vol .entry)) (now (pers .entry)) (now (old .entry)) (now (marks .entry)) (now (glb .entry))) recovery tx id ask ⌝ }
 {
     if not_idle(recovery) {
-        return while_recovering(
-            vol.len(),
-            pers.len(),
-            old.len(),
-            &*marks,
-            *glb,
-            recovery,
-            id,
-            tx,
-            ask,
-        );
+        return while_recovering(vol.len(), pers.len(), old.len(), &*marks, *glb, recovery, id, tx, ask);
     }
     if unfit_idle(vol.len(), pers.len(), old.len(), &*marks, *glb) {
         return refused(Answer::Unfit);
