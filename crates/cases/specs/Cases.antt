@@ -7,7 +7,7 @@ use lib.Dec.{eqb}
 use Rattle.bits.specs.Marks.{countOf}
 use Rattle.dtml.specs.Table.{Reply}
 use Rattle.dtml.specs.Store.{fresh}
-use Rattle.dtml.specs.Asked.{Call}
+use Rattle.dtml.specs.declared.Call.{Call}
 use Rattle.dtml.specs.History.{World}
 use Rattle.dtml.specs.Demands.{after}
 use Rattle.reader.specs.Trace.{wordsOf, scriptOf}

@@ -4,7 +4,10 @@ use mathlib.Core.Path.{_≡_}
 use mathlib.Core.Bool.{true}
 use mathlib.Core.List.{List, [], _∷_, _++_}
 use Rattle.dtml.specs.Table.{says as answer}
-use Rattle.dtml.specs.Asked.{begin, read, write, commit, step, flush, crash, recoverUpTo, Call, on, sys}
+use Rattle.dtml.specs.declared.Ask.the-variants.{Begin as begin, Read as read, Write as write, Commit as commit, Step as step}
+use Rattle.dtml.specs.declared.Sys.the-variants.{Flush as flush, Crash as crash, RecoverUpTo as recoverUpTo}
+use Rattle.dtml.specs.declared.Call.{Call}
+use Rattle.dtml.specs.declared.Call.the-variants.{On as on, Of as sys}
 use Rattle.cases.specs.Cases.{says, lines, word, logged, bound, History, allHold}
 use Rattle.cases.specs.Table.{history, steps, begun, wrote, recovers, noughts}
 

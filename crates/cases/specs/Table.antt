@@ -5,7 +5,10 @@ use mathlib.Core.Bool.{true}
 use mathlib.Core.List.{List, [], _∷_, _++_}
 use lib.ListN.{replicate}
 use Rattle.dtml.specs.Table.{Reply, says as answer}
-use Rattle.dtml.specs.Asked.{begin, read, write, commit, step, crash, recover, Call, on, sys}
+use Rattle.dtml.specs.declared.Ask.the-variants.{Begin as begin, Read as read, Write as write, Commit as commit, Step as step}
+use Rattle.dtml.specs.declared.Sys.the-variants.{Crash as crash, Recover as recover}
+use Rattle.dtml.specs.declared.Call.{Call}
+use Rattle.dtml.specs.declared.Call.the-variants.{On as on, Of as sys}
 use Rattle.cases.specs.Cases.{Schedule, given, trace, Claim, whole, says, lines, word, logged, bound, History, allHold}
 
 abbrev pub row : ℕ → Schedule → List Claim → History

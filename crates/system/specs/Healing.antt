@@ -3,7 +3,8 @@ use Rattle.dtml.specs.declared.Answer.{Answer}
 use Rattle.dtml.specs.declared.Recovery.{Recovery}
 use Rattle.dtml.specs.Table.{says, reply}
 use Rattle.dtml.specs.Store.{Memory, size}
-use Rattle.dtml.specs.Asked.{Sys, Healed, healed}
+use Rattle.dtml.specs.declared.Sys.{Sys}
+use Rattle.dtml.specs.Asked.{Healed, healed}
 use Rattle.dtml.specs.First.{first}
 use Rattle.dtml.specs.Checks.{sysChecks}
 use Rattle.dtml.specs.Handed.{Happened, nothing, a-flush, a-crash, some-lines, happens}

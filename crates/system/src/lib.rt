@@ -26,7 +26,7 @@ ghost use lib.ListN.{length};
 ghost use Rattle.bits.specs.Marks.{pick};
 ghost use Rattle.dtml.specs.Store.{memory};
 ghost use Rattle.dtml.specs.Lines.{crashTx};
-ghost use Rattle.dtml.specs.Asked.{recover as recoverAsked, recoverUpTo};
+ghost use Rattle.dtml.specs.declared.Sys.the-variants.{Recover as recoverAsked, RecoverUpTo as recoverUpTo};
 ghost use Rattle.dtml.specs.Checks.{unfitBeside};
 ghost use Rattle.dtml.specs.Handed.{callSystem};
 ghost use Rattle.parts.specs.Flush.{flushIn};
@@ -145,7 +145,15 @@ pub fn call_system(
         Sys::Flush { word } => flush(&*vol, pers, word),
         Sys::Crash => crash(vol, &*pers, glb),
         Sys::Recover => recover(vol, pers, old, marks, glb, recovery),
-        Sys::RecoverUpTo { allowance } => recover_up_to(vol, pers, old, marks, glb, recovery, allowance),
+        Sys::RecoverUpTo { allowance } => recover_up_to(
+            vol,
+            pers,
+            old,
+            marks,
+            glb,
+            recovery,
+            allowance,
+        ),
     }
 }
 

@@ -22,7 +22,8 @@ pub(crate) struct Heal {
     pub recovery: Recovery,
 }
 
-fn heal(recovery: Recovery) -> Heal
+// A line that answers 0, with where recovery stands after it.
+fn taken(recovery: Recovery) -> Heal
     ensures { λ r. ⌜ r ≡ healOf (Answer.Taken 0) recovery ⌝ }
 {
     Heal {
@@ -65,20 +66,20 @@ pub(crate) fn recovery_line(
         ≡ recoveryLine (memory (now (vol .entry)) (now (pers .entry)) (now (old .entry)) (now (marks .entry)) (now (glb .entry))) recovery ⌝ }
 {
     match recovery {
-        Recovery::Idle => heal(Recovery::Idle),
-        Recovery::C1 => heal(c1(&*marks)),
-        Recovery::C2 => heal(c2(old, &*marks)),
+        Recovery::Idle => taken(Recovery::Idle),
+        Recovery::C1 => taken(c1(&*marks)),
+        Recovery::C2 => taken(c2(old, &*marks)),
         Recovery::C3 { word, value } => {
             vol[word as usize] = value;
-            heal(Recovery::C4 { word, value })
+            taken(Recovery::C4 { word, value })
         }
         Recovery::C4 { word, value } => {
             flush_word(&*vol, pers, word as usize);
-            heal(Recovery::C5 { word, value })
+            taken(Recovery::C5 { word, value })
         }
         Recovery::C5 { word, value: _ } => {
             marks::unmark(marks, word as u64);
-            heal(Recovery::C1)
+            taken(Recovery::C1)
         }
         Recovery::C6 => {
             *glb = 0;

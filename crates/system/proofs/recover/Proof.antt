@@ -1,45 +1,24 @@
--- `system::recover` meets its contract. Each return is the check that applies, after those before it did not, and the last is what the recovery line leaves.
-use mathlib.Core.Path.{sym, _∙_}
+-- `system::recover` meets its contract: where recovery is idle the check applies, else what is left is what the recovery line leaves.
+use mathlib.Core.Path.{ap}
 use borrow.Author.Needs.{needs}
-use Rattle.dtml.specs.Calls.{callSystem, system}
+use Rattle.dtml.specs.Handed.{some-lines}
 use Rattle.system.proofs.recover.Statement.{statement}
 use Rattle.system.proofs.recover.Tie as tie
-
-unfit-beside-requires : tie.Need-unfit-beside-requires
-unfit-beside-requires c κs = search needs
-
-kept-requires : tie.Need-kept-requires
-kept-requires c κs = search needs
-
-returns : tie.Need-returns
-unfolding callSystem
-returns c =
-    let fit = c .before in
-    rw (c .kept .ensures, ← (fit .before .unfit-beside .ensures), fit .if1 .taken)
 
 not-idle-requires : tie.Need-not-idle-requires
 not-idle-requires c κs = search needs
 
-kept-requires-2 : tie.Need-kept-requires-2
-kept-requires-2 c κs = search needs
+refused-requires : tie.Need-refused-requires
+refused-requires c κs = search needs
 
-returns-2 : tie.Need-returns-2
-unfolding callSystem
-returns-2 c =
-    let healing = c .before in
-    let fit = healing .before .before in
-    rw (
-      c .kept2 .ensures,
-      ← (fit .before .unfit-beside .ensures),
-      fit .if1 .left,
-      ← (healing .before .not-idle .ensures),
-      healing .if2 .taken,
-    )
+returns : tie.Need-returns
+returns c = rw (c .refused .ensures, ← (c .before .before .not-idle .ensures), c .before .if1 .taken)
 
 recovery-line-requires : tie.Need-recovery-line-requires
-recovery-line-requires c κs =
-    let fit = c .before .before .before .before .before .before in
-    sym (fit .before .unfit-beside .ensures) ∙ fit .if1 .left
+recovery-line-requires c κs = search needs
+
+healed-requires : tie.Need-healed-requires
+healed-requires c κs = search needs
 
 same-length : tie.Need-same-length
 same-length c = search needs
@@ -47,30 +26,22 @@ same-length c = search needs
 same-length-2 : tie.Need-same-length-2
 same-length-2 c = search needs
 
-returns-3 : tie.Need-returns-3
-unfolding callSystem system
-returns-3 c =
-    let done = c .before .before .before .before in
-    let healing = done .before .before .before .before .before in
-    let fit = healing .before .before in
-    rw (
-      ← (fit .before .unfit-beside .ensures),
-      fit .if1 .left,
-      ← (healing .before .not-idle .ensures),
-      healing .if2 .left,
-    ) (done .recovery-line .ensures)
+returns-2 : tie.Need-returns-2
+returns-2 c =
+    let line = c .before .before .before .before .before in
+    let healing = line .before .before .before .before .before in
+    rw (c .healed .ensures, ← (healing .before .not-idle .ensures), healing .if1 .left)
+    (ap (some-lines 1) (line .recovery-line .ensures))
 
 pub recover-spec : {M : Type 1} → statement M
 recover-spec =
     tie.close
     (tie.spec
-    unfit-beside-requires
-    kept-requires
-    returns
     not-idle-requires
-    kept-requires-2
-    returns-2
+    refused-requires
+    returns
     recovery-line-requires
+    healed-requires
     same-length
     same-length-2
-    returns-3)
+    returns-2)

@@ -11,8 +11,8 @@ use Rattle.system.proofs.recovery.recovery_line.Tie as tie
 enum-told : tie.Need-enum-told
 enum-told c = search needs
 
-heal-requires : tie.Need-heal-requires
-heal-requires c κs = search needs
+taken-requires : tie.Need-taken-requires
+taken-requires c κs = search needs
 
 enum-told-2 : tie.Need-enum-told-2
 enum-told-2 c = search needs
@@ -20,8 +20,8 @@ enum-told-2 c = search needs
 c1-requires : tie.Need-c1-requires
 c1-requires c κs = search needs
 
-heal-requires-2 : tie.Need-heal-requires-2
-heal-requires-2 c κs = search needs
+taken-requires-2 : tie.Need-taken-requires-2
+taken-requires-2 c κs = search needs
 
 enum-told-3 : tie.Need-enum-told-3
 enum-told-3 c = search needs
@@ -29,8 +29,8 @@ enum-told-3 c = search needs
 c2-requires : tie.Need-c2-requires
 c2-requires c κs = chosen-in _ _ _ _ _ (rw (c .before .enum-told3 .given .1) at (c .before .before .before .before .before .before .pre))
 
-heal-requires-3 : tie.Need-heal-requires-3
-heal-requires-3 c κs = search needs
+taken-requires-3 : tie.Need-taken-requires-3
+taken-requires-3 c κs = search needs
 
 enum-known-recovery : tie.Need-enum-known-recovery
 enum-known-recovery c = search needs
@@ -47,8 +47,8 @@ slice-write-vol c =
     named-in _ _ _ _ _ _ (at .recovery .given .0 .0) refl
     (rw (at .recovery .given .1) at (at .before .before .before .before .before .pre)) .0
 
-heal-requires-4 : tie.Need-heal-requires-4
-heal-requires-4 c κs = search needs
+taken-requires-4 : tie.Need-taken-requires-4
+taken-requires-4 c κs = search needs
 
 enum-known-recovery-2 : tie.Need-enum-known-recovery-2
 enum-known-recovery-2 c = search needs
@@ -59,8 +59,8 @@ cast-flush-word c = search needs
 flush-word-requires : tie.Need-flush-word-requires
 flush-word-requires c κs = search needs
 
-heal-requires-5 : tie.Need-heal-requires-5
-heal-requires-5 c κs = search needs
+taken-requires-5 : tie.Need-taken-requires-5
+taken-requires-5 c κs = search needs
 
 enum-known-recovery-3 : tie.Need-enum-known-recovery-3
 enum-known-recovery-3 c = search needs
@@ -71,36 +71,36 @@ cast-unmark c = search needs
 unmark-requires : tie.Need-unmark-requires
 unmark-requires c κs = search needs
 
-heal-requires-6 : tie.Need-heal-requires-6
-heal-requires-6 c κs = search needs
+taken-requires-6 : tie.Need-taken-requires-6
+taken-requires-6 c κs = search needs
 
 enum-told-4 : tie.Need-enum-told-4
 enum-told-4 c = search needs
 
 returns : tie.Need-returns
 unfolding recoveryLine
-returns c = rw (c .before .enum-told .given .1, c .heal .ensures)
+returns c = rw (c .before .enum-told .given .1, c .taken .ensures)
 
 returns-2 : tie.Need-returns-2
 unfolding recoveryLine
 returns-2 c =
     rw (
       c .before .before .before .enum-told2 .given .1,
-      c .heal2 .ensures,
+      c .taken2 .ensures,
       c .before .c1 .ensures,
     )
     (heal-pick (anyMark (c .before .before .before .before .before .before .before .before .args .marks .now)) _ _ _)
 
 returns-3 : tie.Need-returns-3
 unfolding recoveryLine
-returns-3 c = rw (c .before .before .before .enum-told3 .given .1, c .heal3 .ensures, c .before .c2 .ensures)
+returns-3 c = rw (c .before .before .before .enum-told3 .given .1, c .taken3 .ensures, c .before .c2 .ensures)
 
 same-length : tie.Need-same-length
 same-length c = search needs
 
 returns-4 : tie.Need-returns-4
 unfolding recoveryLine
-returns-4 c = rw (c .before .before .recovery .given .1, c .heal4 .ensures)
+returns-4 c = rw (c .before .before .recovery .given .1, c .taken4 .ensures)
 
 same-length-2 : tie.Need-same-length-2
 same-length-2 c = search needs
@@ -116,7 +116,7 @@ returns-5 c =
     let fit = rw (at .recovery2 .given .1) at (at .before .before .before .before .before .pre) in
     rw (
       at .recovery2 .given .1,
-      c .heal5 .ensures,
+      c .taken5 .ensures,
       c .before .before .before .flush-word .ensures
           ∙ flush-in (given .vol .now) (given .pers .now) (given .old .now) (given .marks .now) (given .glb .now) _ (at .recovery2 .given .0 .0) fit
           (named-in _ _ _ _ _ _ (at .recovery2 .given .0 .0) refl fit .0),
@@ -124,7 +124,7 @@ returns-5 c =
 
 returns-6 : tie.Need-returns-6
 unfolding recoveryLine
-returns-6 c = rw (c .before .before .before .before .recovery3 .given .1, c .heal6 .ensures, c .before .unmark .ensures)
+returns-6 c = rw (c .before .before .before .before .recovery3 .given .1, c .taken6 .ensures, c .before .unmark .ensures)
 
 returns-7 : tie.Need-returns-7
 unfolding recoveryLine
@@ -135,26 +135,26 @@ recovery-line-spec =
     tie.close
     (tie.spec
     enum-told
-    heal-requires
+    taken-requires
     enum-told-2
     c1-requires
-    heal-requires-2
+    taken-requires-2
     enum-told-3
     c2-requires
-    heal-requires-3
+    taken-requires-3
     enum-known-recovery
     cast-vol
     mul-vol
     slice-write-vol
-    heal-requires-4
+    taken-requires-4
     enum-known-recovery-2
     cast-flush-word
     flush-word-requires
-    heal-requires-5
+    taken-requires-5
     enum-known-recovery-3
     cast-unmark
     unmark-requires
-    heal-requires-6
+    taken-requires-6
     enum-told-4
     returns
     returns-2
