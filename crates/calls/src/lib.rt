@@ -8,7 +8,8 @@ use numbers::asked;
 use numbers::call;
 ghost use mathlib.Core.Path.{_≡_};
 ghost use mathlib.Core.List.{[]};
-ghost use Rattle.dtml.specs.Asked.{begin, read, write, commit, step, on};
+ghost use Rattle.dtml.specs.declared.Ask.the-variants.{Begin as begin, Read as read, Write as write, Commit as commit, Step as step};
+ghost use Rattle.dtml.specs.declared.Call.the-variants.{On as on};
 ghost use Rattle.numbers.specs.Numbers.{rows, callNumbers, given, gives};
 
 #[no_mangle]

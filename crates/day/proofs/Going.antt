@@ -10,15 +10,16 @@ use lib.Seq.{drop-drop}
 use lib.Dec.{eqb, leb}
 use Rattle.bits.specs.Marks.{pick, countOf}
 use Rattle.bits.proofs.Laws.{laws}
-use Rattle.dtml.specs.declared.Act.{Act}
 use Rattle.dtml.specs.declared.Recovery.{Recovery}
 use Rattle.dtml.specs.declared.Tx.{Tx}
 use Rattle.dtml.specs.Table.{Reply, reply}
 use Rattle.dtml.specs.Store.{Store, memory, store, fresh, recordAt}
-use Rattle.dtml.specs.Asked.{flush, crash, recover, recoverUpTo, Call, on, sys, Outcome}
+use Rattle.dtml.specs.declared.Sys.the-variants.{Flush as flush, Crash as crash, Recover as recover, RecoverUpTo as recoverUpTo}
+use Rattle.dtml.specs.declared.Call.{Call}
+use Rattle.dtml.specs.declared.Call.the-variants.{On as on, Of as sys}
+use Rattle.dtml.specs.Asked.{Outcome}
 use Rattle.dtml.specs.Checks.{notIdle}
-use Rattle.dtml.specs.Acts.{callOf}
-use Rattle.dtml.specs.Counting.{crashesIn, linesIn, cutIn}
+use Rattle.dtml.specs.Counting.{unlessRefused, crashesIn, linesIn, cutIn, committedIn}
 use Rattle.dtml.specs.Calls.{call}
 use Rattle.dtml.specs.History.{Past, World, tell, dawn, runs}
 use Rattle.dtml.specs.Demands.{after}
@@ -29,13 +30,14 @@ use Rattle.dtml.proofs.Fitness.{never-unfit}
 use Rattle.dtml.proofs.Counts.{tell-adds}
 use Rattle.machine.specs.declared.Held.{Held}
 use Rattle.machine.specs.Given.{storeOf}
-use Rattle.reader.specs.Trace.{kinds, does, found, Script, script, scriptOf}
+use Rattle.reader.specs.declared.Item.the-variants.{Does as does}
+use Rattle.reader.specs.Trace.{kinds, found, Script, script, scriptOf}
 use Rattle.reader.proofs.Scripts.{AllAsk, scriptFrom, script-more, script-does, found-asks, found-bytes}
 use Rattle.text.specs.Buffer.{Buffer, buffer, puts}
 use Rattle.text.proofs.Laws.{puts-append, stop-short, totals-short}
-use Rattle.doing.specs.Carrying.{slotOf, carry, Left, putBack}
-use Rattle.doing.proofs.Carries.{carries}
-use Rattle.tally.specs.Tally.{committedIn}
+use Rattle.dtml.specs.Handed.{slotOf, carry, Left, putBack}
+use Rattle.dtml.proofs.Lift.{carries}
+use Rattle.dtml.proofs.Happens.{never-four}
 use Rattle.day.specs.declared.Totals.{Totals}
 use Rattle.day.specs.Replay.{answers, answered, totals, totalsOf, Ending, done, answerText, answerLines, stopText, totalsText, endText, textOf}
 use Rattle.day.specs.declared.Ended.{Ended}
@@ -104,12 +106,15 @@ going-start n bs first some few three =
 -- ---- one record more
 
 -- a record of a trace is one crash, one line or one commit at the most, and cuts off no more words than there are marks for
-pub crashes-one : (c : Call) → crashesIn c ≤ 1
-crashes-one (on t a) = omega arith
-crashes-one (sys (flush w)) = omega arith
-crashes-one (sys crash) = omega arith
-crashes-one (sys recover) = omega arith
-crashes-one (sys (recoverUpTo b)) = omega arith
+refused-low : (a : Reply) (k most : ℕ) → k ≤ most → unlessRefused a k ≤ most
+refused-low a k most h = pick-case (λ x. x ≤ most) (leb 9 (a .number)) (λ e. omega arith) (λ e. h)
+
+crashes-one : (c : Call) (a : Reply) → crashesIn c a ≤ 1
+crashes-one (on t q) a = omega arith
+crashes-one (sys (flush w)) a = omega arith
+crashes-one (sys crash) a = refused-low a 1 1 (omega arith)
+crashes-one (sys recover) a = omega arith
+crashes-one (sys (recoverUpTo b)) a = omega arith
 
 abbrev OneLine : Call → Type 0
 OneLine c = (a : Reply) → linesIn c a ≤ 1
@@ -121,23 +126,30 @@ lines-one =
     λ body a. pick-case (λ k. k ≤ 1) (leb 9 (a .number)) (λ e. omega arith) (λ e. omega arith) in
     (none, (none, (none, (none, (none, (none, (none, (one, tt))))))))
 
-pub cut-marks : (c : Call) (r : Recovery) (k : List ℕ) → cutIn c r k ≤ countOf k
-cut-marks (on t a) r k = omega arith
-cut-marks (sys (flush w)) r k = omega arith
-cut-marks (sys crash) r k = pick-case (λ x. x ≤ countOf k) (notIdle r) (λ e. omega arith) (λ e. omega arith)
-cut-marks (sys recover) r k = omega arith
-cut-marks (sys (recoverUpTo b)) r k = omega arith
+cut-marks : (c : Call) (r : Recovery) (k : List ℕ) (a : Reply) → cutIn c r k a ≤ countOf k
+cut-marks (on t q) r k a = omega arith
+cut-marks (sys (flush w)) r k a = omega arith
+cut-marks (sys crash) r k a =
+    refused-low a (pick (notIdle r) 0 (countOf k)) (countOf k) (pick-case (λ x. x ≤ countOf k) (notIdle r) (λ e. omega arith) (λ e. omega arith))
+cut-marks (sys recover) r k a = omega arith
+cut-marks (sys (recoverUpTo b)) r k a = omega arith
 
-pub committed-one : (a : Reply) → committedIn a ≤ 1
-committed-one a = pick-case (λ k. k ≤ 1) (eqb (a .number) 4) (λ e. omega arith) (λ e. omega arith)
+committed-one : (c : Call) (a : Reply) → committedIn c a ≤ 1
+committed-one (on t q) a = pick-case (λ k. k ≤ 1) (eqb (a .number) 4) (λ e. omega arith) (λ e. omega arith)
+committed-one (sys k) a = omega arith
+
+-- answers 4 are a record's
+fours-in : (s : Store) (c : Call) → pick (eqb (call s c .reply .number) 4) 1 0 ≡ committedIn c (call s c .reply)
+fours-in s (on t q) = refl
+fours-in s (sys k) = rw (never-four s k)
 
 few-more : (t : Totals) (c : Call) (r : Recovery) (k : List ℕ) (a : Reply) → linesIn c a ≤ 1 → length k ≡ 4 → Few (t .records) t
     → Few (t .records + 1) (counted t r k c a)
 unfolding counted
 few-more t c r k a l four f =
-    let b = crashes-one c in
-    let m = cut-marks c r k in
-    let e = committed-one a in
+    let b = crashes-one c a in
+    let m = cut-marks c r k a in
+    let e = committed-one c a in
     let w = laws .count-room k in
     record {
       records = omega arith;
@@ -147,26 +159,23 @@ few-more t c r k a l four f =
       committed = omega (arith, f .committed);
     }
 
-module _ (n : ℕ) (bs first : List ℕ) (s : Store) (t : Totals) (at : ℕ) (o : Buffer) (going : Going n bs first s t at o) (act : Act) (bytes : ℕ)
-    (here : found (drop at bs) ≡ does (callOf act) bytes) where
-  c : Call
-  c = callOf act
+module _ (n : ℕ) (bs first : List ℕ) (s : Store) (t : Totals) (at : ℕ) (o : Buffer) (going : Going n bs first s t at o) (c : Call) (bytes : ℕ)
+    (here : found (drop at bs) ≡ does c bytes) where
 
   w : World
   w = world s (going .past)
 
-  rest-here : restOf bs at ≡ script (callOf act ∷ restOf bs (at + bytes) .calls) (restOf bs (at + bytes) .refusal)
+  rest-here : restOf bs at ≡ script (c ∷ restOf bs (at + bytes) .calls) (restOf bs (at + bytes) .refusal)
   rest-here =
-      script-does (drop at bs) (callOf act) bytes here
-      ∙ ap (λ (x : List ℕ). script (callOf act ∷ scriptFrom x .calls) (scriptFrom x .refusal)) (drop-drop bytes at bs)
+      script-does (drop at bs) c bytes here
+      ∙ ap (λ (x : List ℕ). script (c ∷ scriptFrom x .calls) (scriptFrom x .refusal)) (drop-drop bytes at bs)
 
   one-line : OneLine c
-  unfolding c
-  one-line = found-asks OneLine (drop at bs) (callOf act) bytes lines-one here
+  one-line = found-asks OneLine (drop at bs) c bytes lines-one here
 
   call-on : length (answerText (t .records + 1) (call s c .reply)) ≤ 30
       → Going n bs first (call s c .store) (counted t (s .rec) (s .mem .marks) c (call s c .reply)) (at + bytes) (puts o (answerText (t .records + 1) (call s c .reply)))
-  unfolding counted tell runs answers answered answerLines c w
+  unfolding counted tell runs answers answered answerLines w
   call-on short =
       let line = answerText (t .records + 1) (call s c .reply) in
       let after-it = answerLines (t .records + 1 + 1) (answers (call s c .store) (restOf bs (at + bytes) .calls)) in
@@ -176,13 +185,14 @@ module _ (n : ℕ) (bs first : List ℕ) (s : Store) (t : Totals) (at : ℕ) (o 
       let left = length-drop at bs in
       let one : length (restOf bs at .calls) ≡ length (c ∷ restOf bs (at + bytes) .calls) = ap (λ (p : Script). length (p .calls)) rest-here in
       let fours = ap (λ (p : Script). answered 4 (answers s (p .calls))) rest-here in
+      let four = fours-in s c in
       record {
         past = tell w c .past;
         inv = tell-inv n w c (going .inv);
         low = tell-low n w c (going .inv) (going .low);
-        crashes = ap (λ k. k + crashesIn c) (going .crashes) ∙ sym (adds .crashes);
+        crashes = ap (λ k. k + crashesIn c (call s c .reply)) (going .crashes) ∙ sym (adds .crashes);
         lines = ap (λ k. k + linesIn c (call s c .reply)) (going .lines) ∙ sym (adds .lines);
-        cut = ap (λ k. k + cutIn c (s .rec) (s .mem .marks)) (going .cut) ∙ sym (adds .cut);
+        cut = ap (λ k. k + cutIn c (s .rec) (s .mem .marks) (call s c .reply)) (going .cut) ∙ sym (adds .cut);
         few = few-more t c (s .rec) (s .mem .marks) (call s c .reply) (one-line (call s c .reply)) (going .inv .shape .marks-long) (going .few);
         ahead = omega (arith, going .ahead);
         within = omega (arith, going .within);
@@ -200,10 +210,10 @@ module _ (n : ℕ) (bs first : List ℕ) (s : Store) (t : Totals) (at : ℕ) (o 
       }
 
   -- the record done on what it is handed, and put back
-  pub going-on : (l : Left) → l ≡ carry (s .mem) (s .rec) (recordAt (s .txs) (slotOf (callOf act))) (callOf act)
+  pub going-on : (l : Left) → l ≡ carry (s .mem) (s .rec) (recordAt (s .txs) (slotOf c)) c
       → length (answerText (t .records + 1) (l .reply)) ≤ 30
-      → Going n bs first (putBack s (callOf act) l .store) (counted t (s .rec) (s .mem .marks) (callOf act) (l .reply)) (at + bytes) (puts o (answerText (t .records + 1) (l .reply)))
-  unfolding c w
+      → Going n bs first (putBack s c l .store) (counted t (s .rec) (s .mem .marks) c (l .reply)) (at + bytes) (puts o (answerText (t .records + 1) (l .reply)))
+  unfolding w
   going-on l e short =
       let done-so = carries s c (never-unfit n w (going .inv) (going .low)) ∙ ap (putBack s c) (sym e) in
       subst (λ (x : Outcome). Going n bs first (x .store) (counted t (s .rec) (s .mem .marks) c (x .reply)) (at + bytes) (puts o (answerText (t .records + 1) (x .reply))))
@@ -314,8 +324,8 @@ looping-start trace out vol pers old held txs t e some few three short q =
     (subst (λ (s : Store). Going (length vol) trace out s t 3 (buffer out 0)) (sym e) (rw q (going-start (length vol) trace out some few three)), short)
 
 -- a record of a trace is one recovery line at the most
-pub one-line-so : (bs : List ℕ) (at : ℕ) (act : Act) (bytes : ℕ) → found (drop at bs) ≡ does (callOf act) bytes → OneLine (callOf act)
-one-line-so bs at act bytes = found-asks OneLine (drop at bs) (callOf act) bytes lines-one
+pub one-line-so : (bs : List ℕ) (at : ℕ) (c : Call) (bytes : ℕ) → found (drop at bs) ≡ does c bytes → OneLine c
+one-line-so bs at c bytes = found-asks OneLine (drop at bs) c bytes lines-one
 
 module _ {trace : List ℕ} {n : ℕ} {out₀ vol pers old out marks : List ℕ} {glb : ℕ} {recovery : Recovery} {rows : List Tx} {totals : Totals} {at place : ℕ}
     (loop : Looping trace n out₀ vol pers old out marks glb recovery rows totals at place) where

@@ -3,16 +3,15 @@ use Prim.Native.Nat.{ℕ, _+_, _*_, _≤_}
 use mathlib.Core.List.{List}
 use Rattle.dtml.specs.declared.Recovery.{Recovery}
 use Rattle.dtml.specs.Table.{Reply}
-use Rattle.dtml.specs.Asked.{Call}
-use Rattle.dtml.specs.Counting.{crashesIn, linesIn, cutIn}
-use Rattle.tally.specs.Tally.{committedIn}
+use Rattle.dtml.specs.declared.Call.{Call}
+use Rattle.dtml.specs.Counting.{crashesIn, linesIn, cutIn, committedIn}
 use Rattle.day.specs.declared.Totals.{Totals}
 use Rattle.day.specs.Replay.{totals}
 
 -- the T line's numbers after one record more, a call that found recovery at r and the marks k, and was answered a
 unfoldable pub counted : Totals → Recovery → List ℕ → Call → Reply → Totals
 counted t r k c a =
-    totals (t .records + 1) (t .crashes + crashesIn c) (t .lines + linesIn c a) (t .cut + cutIn c r k) (t .committed + committedIn a)
+    totals (t .records + 1) (t .crashes + crashesIn c a) (t .lines + linesIn c a) (t .cut + cutIn c r k a) (t .committed + committedIn c a)
 
 -- the numbers of no more than so many records, each of which cuts off no more than 256 words
 pub record Few (most : ℕ) (t : Totals) : Type 0 where

@@ -7,7 +7,7 @@ use lib.Dec.{eqb}
 use Rattle.bits.specs.Marks.{pick}
 use Rattle.dtml.specs.Table.{Reply}
 use Rattle.dtml.specs.Store.{Store, fresh}
-use Rattle.dtml.specs.Asked.{Call}
+use Rattle.dtml.specs.declared.Call.{Call}
 use Rattle.dtml.specs.First.{anyOf, Check, _⇒_, first}
 use Rattle.dtml.specs.Calls.{call}
 use Rattle.dtml.specs.Demands.{after}

@@ -6,7 +6,8 @@ use numbers::call;
 use numbers::make_fresh;
 ghost use mathlib.Core.Path.{_≡_};
 ghost use mathlib.Core.List.{[]};
-ghost use Rattle.dtml.specs.Asked.{flush, crash, recover, recoverUpTo, sys};
+ghost use Rattle.dtml.specs.declared.Sys.the-variants.{Flush as flush, Crash as crash, Recover as recover, RecoverUpTo as recoverUpTo};
+ghost use Rattle.dtml.specs.declared.Call.the-variants.{Of as sys};
 ghost use Rattle.numbers.specs.Numbers.{rows, callNumbers, freshNumbers, given, gives};
 
 // Makes the store fresh, whatever the numbers were; answers 9 to rows of the wrong length.

@@ -9,7 +9,7 @@ use lib.ListN.{length, drop, getD, drop-of-length-le}
 use lib.Seq.{drop-cons}
 use lib.Dec.{ltb}
 use Rattle.dtml.specs.Table.{Reply}
-use Rattle.dtml.specs.Asked.{Call}
+use Rattle.dtml.specs.declared.Call.{Call}
 use Rattle.doing.specs.Carrying.{reachesAll}
 use Rattle.text.specs.Buffer.{Buffer, put, puts}
 use Rattle.text.specs.Text.{decimal}

@@ -9,7 +9,8 @@ use Rattle.dtml.specs.declared.Act.{Act}
 use Rattle.dtml.specs.declared.Act.the-variants.{Begin, Write, Commit, Step, Crash, RecoverUpTo}
 use Rattle.dtml.specs.Table.{Reply}
 use Rattle.dtml.specs.Store.{Store, fresh}
-use Rattle.dtml.specs.Asked.{Call, Outcome}
+use Rattle.dtml.specs.declared.Call.{Call}
+use Rattle.dtml.specs.Asked.{Outcome}
 use Rattle.dtml.specs.Acts.{callOf}
 use Rattle.dtml.specs.Calls.{call}
 use Rattle.doing.specs.Carrying.{reachesAll}

@@ -16,7 +16,11 @@ use Rattle.dtml.specs.declared.Tx.{Tx}
 use Rattle.dtml.specs.Table.{says}
 use Rattle.dtml.specs.Store.{Memory, Store, memory, store, fresh, tx, recordAt}
 use Rattle.dtml.specs.Lines.{crashTxs}
-use Rattle.dtml.specs.Asked.{Ask, Sys, Call, on, sys, Outcome, outcome}
+use Rattle.dtml.specs.declared.Ask.{Ask}
+use Rattle.dtml.specs.declared.Sys.{Sys}
+use Rattle.dtml.specs.declared.Call.{Call}
+use Rattle.dtml.specs.declared.Call.the-variants.{On as on, Of as sys}
+use Rattle.dtml.specs.Asked.{Outcome, outcome}
 use Rattle.dtml.specs.First.{anyOf}
 use Rattle.dtml.specs.Checks.{unfit, unfitRows, unfitMemory, unfitOne, unfitTxs}
 use Rattle.dtml.specs.Calls.{refused, call, makeFresh}

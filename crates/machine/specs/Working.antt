@@ -12,7 +12,7 @@ use Rattle.dtml.specs.declared.Recovery.the-variants.{Idle, C1}
 use Rattle.dtml.specs.declared.Tx.{Tx}
 use Rattle.dtml.specs.Table.{says, reply}
 use Rattle.dtml.specs.Store.{Memory, memory}
-use Rattle.dtml.specs.Asked.{Call}
+use Rattle.dtml.specs.declared.Call.{Call}
 use Rattle.dtml.specs.First.{anyOf}
 use Rattle.dtml.specs.Checks.{unfitRows}
 use Rattle.dtml.specs.Handed.{Left, left, carry, crashed}

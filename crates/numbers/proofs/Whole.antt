@@ -14,7 +14,8 @@ use Rattle.dtml.specs.declared.Tx.{Tx}
 use Rattle.dtml.specs.Table.{Reply, says, reply}
 use Rattle.dtml.specs.Store.{Store, memory, tx}
 use Rattle.dtml.specs.Lines.{crashTxs}
-use Rattle.dtml.specs.Asked.{Call, on, sys}
+use Rattle.dtml.specs.declared.Call.{Call}
+use Rattle.dtml.specs.declared.Call.the-variants.{On as on, Of as sys}
 use Rattle.dtml.specs.First.{anyOf}
 use Rattle.dtml.specs.Checks.{unfit, unfitRows, unfitMemory, unfitTxs}
 use Rattle.dtml.specs.Calls.{refused, call, makeFresh}

@@ -9,7 +9,8 @@ use Rattle.dtml.specs.declared.Tx.{Tx}
 use Rattle.dtml.specs.declared.Recovery.{Recovery}
 use Rattle.dtml.specs.Table.{Reply, says}
 use Rattle.dtml.specs.Store.{Store, memory, store, tx}
-use Rattle.dtml.specs.Asked.{Call, Outcome}
+use Rattle.dtml.specs.declared.Call.{Call}
+use Rattle.dtml.specs.Asked.{Outcome}
 use Rattle.dtml.specs.First.{anyOf}
 use Rattle.dtml.specs.Checks.{unfitRows}
 use Rattle.dtml.specs.Calls.{call, makeFresh}

@@ -44,7 +44,7 @@ unfolding puts
 puts-append o [] t = refl
 puts-append o (b ∷ s) t = puts-append (put o b) s t
 
-puts-sets : (bytes : List ℕ) (at : ℕ) (t : List ℕ) → at + length t ≤ length bytes → puts (buffer bytes at) t ≡ buffer (sets bytes at t) (at + length t)
+pub puts-sets : (bytes : List ℕ) (at : ℕ) (t : List ℕ) → at + length t ≤ length bytes → puts (buffer bytes at) t ≡ buffer (sets bytes at t) (at + length t)
 unfolding puts
 puts-sets bytes at [] h = ap (buffer bytes) (omega arith)
 puts-sets bytes at (b ∷ t) h =
@@ -84,7 +84,7 @@ field-then o p q n b t e f =
 -- ---- digits
 
 -- a number is one digit or has more
-one-or-more : (n : ℕ) → (n < 10) ⊎ (10 ≤ n)
+pub one-or-more : (n : ℕ) → (n < 10) ⊎ (10 ≤ n)
 one-or-more n = go (ltb n 10) refl
   where
     go : (t : Bool) → ltb n 10 ≡ t → (n < 10) ⊎ (10 ≤ n)
@@ -144,10 +144,10 @@ puts-more o p q n h e f = then-byte o p q (decimal (n / 10)) (48 + n % 10) e f �
 
 -- ---- how long text can be
 
-one-digit : (n : ℕ) → n < 10 → length (decimal n) ≡ 1
+pub one-digit : (n : ℕ) → n < 10 → length (decimal n) ≡ 1
 one-digit n h = ap length (decimal-one n h)
 
-more-digits : (n : ℕ) → 10 ≤ n → length (decimal n) ≡ length (decimal (n / 10)) + 1
+pub more-digits : (n : ℕ) → 10 ≤ n → length (decimal n) ≡ length (decimal (n / 10)) + 1
 more-digits n h = ap length (decimal-more n h) ∙ length-append (decimal (n / 10)) ((48 + n % 10) ∷ [])
 
 -- a number below 10 ^ k has at most k digits

@@ -12,7 +12,7 @@ use Rattle.dtml.specs.declared.Tx.{Tx}
 use Rattle.dtml.specs.Table.{Reply, reply}
 use Rattle.dtml.specs.Store.{Memory, store, recordAt}
 use Rattle.dtml.specs.Lines.{crashTxs}
-use Rattle.dtml.specs.Asked.{Call}
+use Rattle.dtml.specs.declared.Call.{Call}
 use Rattle.dtml.specs.Acts.{callOf}
 use Rattle.dtml.specs.Counting.{linesIn}
 use Rattle.reader.specs.declared.Item.{Item}

@@ -32,21 +32,22 @@ ghost use mathlib.Core.Bool.{true, false};
 ghost use lib.ListN.{length, replicate};
 ghost use lib.Dec.{eqb, leb};
 ghost use Rattle.bits.specs.Marks.{pick, countOf};
-ghost use Rattle.dtml.specs.Table.{reply, says};
+ghost use Rattle.dtml.specs.Table.{reply};
 ghost use Rattle.dtml.specs.declared.Phase.the-variants.{Fresh};
 ghost use Rattle.dtml.specs.Store.{memory, store, fresh, tx as txOf};
 ghost use Rattle.dtml.specs.Lines.{crashTxs};
 ghost use Rattle.dtml.specs.Checks.{notIdle};
-ghost use Rattle.dtml.specs.Counting.{committedIn};
+
 ghost use Rattle.machine.specs.Given.{storeOf};
 ghost use Rattle.reader.specs.Trace.{scriptOf};
 ghost use Rattle.text.specs.Buffer.{buffer, puts};
-ghost use Rattle.text.specs.Text.{answerLine};
+
 ghost use Rattle.day.specs.Replay.{totals as totalsFrom, answerText, done as doneOf};
 ghost use Rattle.day.specs.Ends.{Ends};
 ghost use Rattle.day.specs.Counted.{Few};
-ghost use Rattle.dtml.specs.Asked.{on, sys as sysAsked};
-ghost use Rattle.trace.specs.Turning.{slotAt, callMoment, turnOf, OneLine, OneLineAt, Moves, Followed, onCourse, stillOf};
+ghost use Rattle.dtml.specs.declared.Call.the-variants.{On as on};
+ghost use Rattle.dtml.specs.declared.Call.the-variants.{Of as sysAsked};
+ghost use Rattle.trace.specs.Turning.{slotAt, callMoment, turnOf, OneLine, OneLineAt, Moves, Brief, BriefAt, Through, onCourse, stillOf};
 
 // The numbers of the T line after a call on a record.
 fn turned(totals: Totals, answer: Answer) -> Totals
@@ -143,7 +144,7 @@ pub(crate) struct Moved {
 }
 
 // What all items leave.
-pub(crate) struct Run {
+pub(crate) struct Reached {
     pub course: Course,
     pub recovery: Recovery,
     pub txs: [Tx; 64],
@@ -261,7 +262,8 @@ fn on_record(
 ) -> Moved
     requires { ⌜ Few 65536 (course .totals) ⌝ }
     ensures { λ r. ⌜ Moves r (memory (now (vol .exit)) (now (pers .exit)) (now (old .exit)) (now (marks .exit)) (r .course .glb)) (now (out .exit)) recovery tx
-        (callMoment (memory (now (vol .entry)) (now (pers .entry)) (now (old .entry)) (now (marks .entry)) (course .glb)) recovery tx course (now (out .entry)) (on id ask)) ⌝ }
+        (callMoment (memory (now (vol .entry)) (now (pers .entry)) (now (old .entry)) (now (marks .entry)) (course .glb)) recovery tx course (now (out .entry)) (on id ask))
+        × Brief (memory (now (vol .entry)) (now (pers .entry)) (now (old .entry)) (now (marks .entry)) (course .glb)) recovery tx course (on id ask) ⌝ }
 {
     let mut glb = course.glb;
     let before = course.totals;
@@ -295,7 +297,8 @@ fn on_none(
 ) -> Moved
     requires { ⌜ Few 65536 (course .totals) × OneLine (sysAsked sys) ⌝ }
     ensures { λ r. ⌜ Moves r (memory (now (vol .exit)) (now (pers .exit)) (now (old .entry)) (now (marks .exit)) (r .course .glb)) (now (out .exit)) recovery tx
-        (callMoment (memory (now (vol .entry)) (now (pers .entry)) (now (old .entry)) (now (marks .entry)) (course .glb)) recovery tx course (now (out .entry)) (sysAsked sys)) ⌝ }
+        (callMoment (memory (now (vol .entry)) (now (pers .entry)) (now (old .entry)) (now (marks .entry)) (course .glb)) recovery tx course (now (out .entry)) (sysAsked sys))
+        × Brief (memory (now (vol .entry)) (now (pers .entry)) (now (old .entry)) (now (marks .entry)) (course .glb)) recovery tx course (sysAsked sys) ⌝ }
 {
     let mut glb = course.glb;
     let before = course.totals;
@@ -338,7 +341,8 @@ fn turn(
 ) -> Moved
     requires { ⌜ Few 65536 (course .totals) × OneLineAt item ⌝ }
     ensures { λ r. ⌜ Moves r (memory (now (vol .exit)) (now (pers .exit)) (now (old .exit)) (now (marks .exit)) (r .course .glb)) (now (out .exit)) recovery tx
-        (turnOf (memory (now (vol .entry)) (now (pers .entry)) (now (old .entry)) (now (marks .entry)) (course .glb)) recovery tx course (now (out .entry)) item) ⌝ }
+        (turnOf (memory (now (vol .entry)) (now (pers .entry)) (now (old .entry)) (now (marks .entry)) (course .glb)) recovery tx course (now (out .entry)) item)
+        × BriefAt (memory (now (vol .entry)) (now (pers .entry)) (now (old .entry)) (now (marks .entry)) (course .glb)) recovery tx course item ⌝ }
 {
     match item {
         Item::Does { call, .. } => match call {
@@ -351,17 +355,17 @@ fn turn(
 }
 
 // The loop holds the reader, which moves on past each record.
-fn follow(
+fn go_through(
     trace: &[u8],
     vol: &mut [u32],
     pers: &mut [u32],
     old: &mut [u32],
     marks: &mut Marks,
     out: &mut [u8],
-) -> Run
+) -> Reached
     requires { ⌜ (store (memory (now vol) (now pers) (now old) (now marks) 0) Recovery.Idle (replicate 64 (txOf 0 Fresh)) ≡ fresh (length (now vol)))
         × (1 ≤ length (now vol)) × (length (now vol) ≤ 256) × (3 ≤ length (now trace)) × (length (now trace) ≤ 65536) ⌝ }
-    ensures { λ r. ⌜ Followed (doneOf (length (now (vol .entry))) (scriptOf (now (trace .entry)))) r
+    ensures { λ r. ⌜ Through (doneOf (length (now (vol .entry))) (scriptOf (now (trace .entry)))) r
         (memory (now (vol .exit)) (now (pers .exit)) (now (old .exit)) (now (marks .exit)) (r .course .glb)) (now (out .entry)) (now (out .exit)) ⌝ }
 {
     let mut course = first();
@@ -385,7 +389,7 @@ fn follow(
             }
         }
     }
-    Run {
+    Reached {
         course,
         recovery,
         txs: rows,
@@ -406,7 +410,7 @@ pub(crate) fn run(
         × (r .changed ≡ true) ⌝ }
 {
     let mut marks = held.marks;
-    let done = follow(trace, vol, pers, old, &mut marks, out);
+    let done = go_through(trace, vol, pers, old, &mut marks, out);
     let course = done.course;
     let recovery = done.recovery;
     let txs = done.txs;

@@ -7,7 +7,6 @@ use lib.ListN.{getD, set}
 use Rattle.bits.specs.Marks.{withMark}
 use Rattle.bits.proofs.Digits.{and-shift}
 use Rattle.bits.proofs.Laws.{with-past}
-use Rattle.marks.proofs.Row.{number-fits}
 use borrow.Author.Needs.{needs}
 use Rattle.marks.proofs.unmark.Statement.{statement}
 use Rattle.marks.proofs.unmark.Tie as tie
