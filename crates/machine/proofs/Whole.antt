@@ -56,29 +56,29 @@ event-left Event.Flushed v p o k g r t = refl
 event-left Event.Crashed v p o k g r t = refl
 event-left (Event.Healed a n r′) v p o k g r t = refl
 
-module _ (v p o : List ℕ) (h : Held) {bad : Bool} (t : Tx) {c : Call} {x : Worked} where
+module _ (v p o : List ℕ) (h : Held) {bad : Bool} (t : Tx) (c : Call) {x : Worked} where
   pub unfit-row : bad ≡ true → x ≡ beside Unfit (h .marks) (h .glb) (h .recovery) t false
       → workedOf x v p o ≡ worked (memory v p o (h .marks) (h .glb)) (h .recovery) bad t c
   unfolding worked
   unfit-row b q = ap (λ (y : Worked). workedOf y v p o) q ∙ rw b
 
-  pub on-one : {i : ℕ} {a : Ask} {u : Turn} {v′ p′ o′ k′ : List ℕ} {g′ : ℕ} → bad ≡ false → c ≡ on i a
+  pub on-one : {i : ℕ} {a : Ask} {v′ p′ o′ : List ℕ} (u : Turn) (k′ : List ℕ) (g′ : ℕ) → bad ≡ false → c ≡ on i a
       → turnedOf u (memory v′ p′ o′ k′ g′) ≡ callOne (memory v p o (h .marks) (h .glb)) (h .recovery) t i a
       → x ≡ turnWorked u k′ g′ (h .recovery) t
       → workedOf x v′ p′ o′ ≡ worked (memory v p o (h .marks) (h .glb)) (h .recovery) bad t c
   unfolding worked carry
-  on-one {u = u} {v′} {p′} {o′} {k′} {g′} b is done q =
+  on-one {v′ = v′} {p′} {o′} u k′ g′ b is done q =
       ap (λ (y : Worked). workedOf y v′ p′ o′) q
       ∙ turn-left u v′ p′ o′ k′ g′ (h .recovery) t
       ∙ ap (λ y. workOf (turnLeft (h .recovery) t y) false) done
       ∙ rw (b, is)
 
-  pub on-none : {k : Sys} {e : Event} {v′ p′ o′ k′ : List ℕ} {g′ : ℕ} → bad ≡ false → c ≡ sys k
+  pub on-none : {k : Sys} {v′ p′ o′ : List ℕ} (e : Event) (k′ : List ℕ) (g′ : ℕ) → bad ≡ false → c ≡ sys k
       → happenedOf e (memory v′ p′ o′ k′ g′) ≡ callSystem (memory v p o (h .marks) (h .glb)) (h .recovery) k
       → x ≡ eventWorked e k′ g′ (h .recovery) t
       → workedOf x v′ p′ o′ ≡ worked (memory v p o (h .marks) (h .glb)) (h .recovery) bad t c
   unfolding worked carry
-  on-none {e = e} {v′} {p′} {o′} {k′} {g′} b is done q =
+  on-none {v′ = v′} {p′} {o′} e k′ g′ b is done q =
       ap (λ (y : Worked). workedOf y v′ p′ o′) q
       ∙ event-left e v′ p′ o′ k′ g′ (h .recovery) t
       ∙ ap (λ y. workOf (eventLeft (h .recovery) t y) (isCrash y)) done
