@@ -69,8 +69,8 @@ pub unfit-record : (m : Memory) (r : Recovery) (t : Tx) (i : ℕ) (a : Ask) → 
 unfolding callOne unfitOne
 unfit-record m r t i a idle beside own = rw (idle-is r idle, beside, own)
 
-pub no-record : (m : Memory) (r : Recovery) (t : Tx) (i : ℕ) (a : Ask) → notIdle r ≡ false → unfitMemory m Idle ≡ false → unfitTx (size m) t ≡ false → leb 64 i ≡ true
-    → no-turn (says 11 0) m ≡ callOne m r t i a
+pub no-record : (m : Memory) (r : Recovery) (t : Tx) (i : ℕ) (a : Ask) → notIdle r ≡ false → unfitMemory m Idle ≡ false → unfitTx (size m) t ≡ false
+    → leb 64 i ≡ true → no-turn (says 11 0) m ≡ callOne m r t i a
 unfolding callOne unfitOne
 no-record m r t i a idle beside own past = rw (idle-is r idle, beside, own, past)
 

@@ -1,9 +1,9 @@
 -- `lines::call_one` meets its contract: each return is one law of Called.antt, on the tests that came before it. What a line asks is part of the test that what is handed in is fit.
 use mathlib.Core.Path.{sym, _∙_}
 use borrow.Author.Needs.{needs}
-use Rattle.lines.proofs.Room.{room}
-use Rattle.lines.proofs.Called.{recovering, unfit-beside, unfit-record, no-record, fit, begins, reads, writes, commits, steps}
 use borrow.Author.Tests.{le-leb}
+use Rattle.lines.proofs.Called.{recovering, unfit-beside, unfit-record, no-record, fit, begins, reads, writes, commits, steps}
+use Rattle.lines.proofs.Room.{room}
 use Rattle.lines.proofs.call_one.Statement.{statement}
 use Rattle.lines.proofs.call_one.Tie as tie
 
@@ -15,7 +15,8 @@ while-recovering-requires c κs = search needs
 
 returns : tie.Need-returns
 returns c =
-    rw (c .while-recovering .ensures) (recovering _ _ _ _ _ (sym (c .before .before .before .before .not-idle .ensures) ∙ c .before .before .before .if1 .taken))
+    let idle = c .before .before .before in
+    rw (c .while-recovering .ensures) (recovering _ _ _ _ _ (sym (idle .before .not-idle .ensures) ∙ idle .if1 .taken))
 
 unfit-idle-requires : tie.Need-unfit-idle-requires
 unfit-idle-requires c κs = search needs
