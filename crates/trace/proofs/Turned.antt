@@ -1,58 +1,28 @@
--- What a turn leaves, of what its callees promise: laws over plain values.
+-- What a turn leaves, of what its callees promise, and what the loop knows before and after it: laws over plain values.
 use Prim.Native.Nat.{ℕ, _+_, _-_, _≤_, _<_}
 use native.Mathlib.Omega.{arith}
-use mathlib.Core.Path.{_≡_, refl, sym, ap, subst}
+use mathlib.Core.Path.{_≡_, refl, sym}
 use mathlib.Core.Bool.{Bool, true, false}
 use mathlib.Core.List.{List, [], _∷_}
 use lib.ListN.{length, set, drop}
 use Rattle.bits.specs.Marks.{pick}
-use Rattle.dtml.specs.declared.Act.{Act}
 use Rattle.dtml.specs.declared.Recovery.{Recovery}
 use Rattle.dtml.specs.declared.Tx.{Tx}
-use Rattle.dtml.specs.Table.{Reply, reply}
-use Rattle.dtml.specs.Store.{Memory, store, recordAt}
-use Rattle.dtml.specs.Lines.{crashTxs}
-use Rattle.dtml.specs.declared.Call.{Call}
-use Rattle.dtml.specs.Acts.{callOf}
-use Rattle.dtml.specs.Counting.{linesIn}
+use Rattle.dtml.specs.Store.{Memory, memory, store, recordAt}
+use Rattle.dtml.specs.Handed.{reach}
 use Rattle.reader.specs.declared.Item.{Item}
 use Rattle.reader.specs.declared.Item.the-variants.{End, Stops, Does}
-use Rattle.reader.specs.Trace.{Found, stops, found, script}
-use Rattle.reader.specs.Said.{foundOf, placeAfter}
+use Rattle.reader.specs.Trace.{found, script, scriptOf}
+use Rattle.reader.specs.Said.{placeAfter}
 use Rattle.reader.proofs.Scripts.{script-end, script-stops, found-refusal, after-inside}
-use Rattle.doing.specs.declared.Carried.{Carried}
-use Rattle.doing.specs.Carrying.{carry, leftOf, reachesAll}
-use Rattle.text.specs.Buffer.{Buffer, buffer, puts}
-use Rattle.day.specs.declared.Totals.{Totals}
-use Rattle.day.specs.Replay.{answerText}
-use Rattle.day.specs.Counted.{counted, Few}
-use Rattle.day.proofs.Going.{restOf, Going, going-on, Looping, one-line-so}
+use Rattle.text.specs.Buffer.{buffer}
+use Rattle.day.specs.Replay.{done}
+use Rattle.day.specs.Counted.{counted}
+use Rattle.day.proofs.Going.{restOf, Going, going-on, ends-so, prints-so, text-so, Looping, one-line-so, next-record}
 use Rattle.trace.specs.declared.run.Course.{Course}
-use Rattle.trace.specs.Turning.{Moment, memoryOf, slotAt, turnOf, OneLineAt, Brief}
-
-pub one-line-at : (item : Item) {act : Act} {bytes : ℕ} → item ≡ Does act bytes → OneLineAt (foundOf item) → (a : Reply) → linesIn (callOf act) a ≤ 1
-one-line-at item is o = subst (λ (x : Item). OneLineAt (foundOf x)) is o
-
-pub few-number : {t t′ : Totals} (r : Recovery) (k : List ℕ) (c : Call) (a : Reply) → t′ ≡ counted t r k c a → Few 65536 t → t′ .records < 100000
-unfolding counted
-few-number {t} {t′} r k c a e f = let z = ap (λ (x : Totals). x .records) e in omega (arith, f .records)
-
-pub turned : (item : Item) {act : Act} {bytes : ℕ} (m m′ : Memory) (t : Tx) (c : Course) (out : List ℕ) (l : Carried) {totals′ : Totals} {o′ : Buffer} {cut : Bool} → item ≡ Does act bytes
-    → leftOf l m′ ≡ carry m (c .held .recovery) t (callOf act)
-    → totals′ ≡ counted (c .totals) (c .held .recovery) (m .marks) (callOf act) (reply (l .answer))
-    → o′ ≡ puts (buffer out (c .place)) (answerText (totals′ .records) (reply (l .answer)))
-    → length (answerText (totals′ .records) (reply (l .answer))) ≤ 30
-    → cut ≡ reachesAll (callOf act)
-    → (record { mem = m′; rec = l .recovery; tx = l .tx; totals = totals′; text = o′; going = true; refusal = 0; cut = cut } ≡ turnOf m t c out (foundOf item))
-    × Brief m t c (foundOf item)
-turned item m m′ t c out l is carried tallied printed short reached =
-    (rw (is, ← carried, printed, tallied, reached), rw (is, ← carried) (rw tallied at short))
+use Rattle.trace.specs.Turning.{Moment, slotAt, turnOf, OneLineAt, BriefAt, Through}
 
 -- ---- the loop's invariant, over what a turn leaves
-
--- the records after it: the one that was handed over is put back, and a crash reaches all
-abbrev pub rowsAfter : Bool → List Tx → List Tx
-rowsAfter cut ts = pick cut (crashTxs ts) ts
 
 -- bytes that are left to read, while it goes on
 abbrev pub measure : List ℕ → ℕ → Bool → ℕ
@@ -71,37 +41,46 @@ first-same : (ts : List Tx) → set ts 0 (recordAt ts 0) ≡ ts
 first-same [] = refl
 first-same (t ∷ ts) = refl
 
-module _ {bs : List ℕ} {n : ℕ} {first vol pers old out : List ℕ} {ts : List Tx} {at : ℕ} (c : Course)
-    (loop : Looping bs n first vol pers old out (c .held .marks) (c .held .glb) (c .held .recovery) ts (c .totals) at (c .place)) where
+module _ {bs : List ℕ} {n : ℕ} {first vol pers old marks out : List ℕ} {ts : List Tx} {at : ℕ} {r : Recovery} (c : Course)
+    (loop : Looping bs n first vol pers old out marks (c .glb) r ts (c .totals) at (c .place)) where
   abbrev m : Memory
-  m = memoryOf vol pers old c
+  m = memory vol pers old marks (c .glb)
 
-  pub asks-at : (i : Item) → foundOf i ≡ found (drop at bs) → OneLineAt (foundOf i)
+  pub asks-at : (i : Item) → i ≡ found (drop at bs) → OneLineAt i
   asks-at End e = tt
   asks-at (Stops k) e = tt
-  asks-at (Does act k) e = one-line-so bs at act k (sym e)
+  asks-at (Does call k) e = one-line-so bs at call k (sym e)
 
-  -- a turn more
-  abbrev pub After : Found → Moment → Type 0
-  After f x = Stands bs n first x (rowsAfter (x .cut) (set ts (slotAt f) (x .tx))) (placeAfter at f) × (measure bs (placeAfter at f) (x .going) < measure bs at true)
+  -- a turn more: the record that was handed over is put back, and a crash reaches all
+  abbrev pub After : Item → Moment → Type 0
+  After i x = Stands bs n first x (reach (x .crashed) (set ts (slotAt i) (x .tx))) (placeAfter at i) × (measure bs (placeAfter at i) (x .going) < measure bs at true)
 
-  stays-so : (k : ℕ) → k < 100 → restOf bs at ≡ script [] k → After (stops k) (turnOf m (recordAt ts 0) c out (stops k))
+  stays-so : (k : ℕ) → k < 100 → restOf bs at ≡ script [] k → After (Stops k) (turnOf m r (recordAt ts 0) c out (Stops k))
   stays-so k small e = (
     record { going = rw (first-same ts) (loop .0); short = loop .1; over = λ _. (small, e) },
     omega arith,
   )
 
-  pub moves : (i : Item) → foundOf i ≡ found (drop at bs) → Brief m (recordAt ts (slotAt (foundOf i))) c (foundOf i)
-      → After (foundOf i) (turnOf m (recordAt ts (slotAt (foundOf i))) c out (foundOf i))
+  pub moves : (i : Item) → i ≡ found (drop at bs) → BriefAt m r (recordAt ts (slotAt i)) c i → After i (turnOf m r (recordAt ts (slotAt i)) c out i)
   unfolding counted
   moves End e brief = stays-so 0 (omega arith) (script-end (drop at bs) (sym e))
   moves (Stops k) e brief = stays-so k (found-refusal (drop at bs) k (sym e)) (script-stops (drop at bs) k (sym e))
-  moves (Does act k) e brief =
-      let inside = after-inside bs at (callOf act) k (sym e) in (
+  moves (Does call k) e brief =
+      let inside = after-inside bs at call k (sym e) in (
         record {
-          going = going-on n bs first (store m (c .held .recovery) ts) (c .totals) at (buffer out (c .place)) (loop .0) act k (sym e) _ refl brief;
+          going = going-on n bs first (store m r ts) (c .totals) at (buffer out (c .place)) (loop .0) call k (sym e) _ refl brief;
           short = loop .1;
           over = λ z. true-not z;
         },
         omega arith,
       )
+
+  -- after the last record
+  pub through : c .refusal < 100 → restOf bs at ≡ script [] (c .refusal)
+      → Through (done n (scriptOf bs)) (record { course = c; recovery = r; txs = ts }) m first out
+  through small e = record {
+    ending = ends-so n bs first (store m r ts) (c .totals) at (buffer out (c .place)) (loop .0) (c .refusal) e;
+    text = prints-so n bs first (store m r ts) (c .totals) at (buffer out (c .place)) (loop .0) (c .refusal) e;
+    short = text-so n bs first (store m r ts) (c .totals) at (buffer out (c .place)) (loop .0) (c .refusal) e small (loop .1);
+    few = next-record loop;
+  }
