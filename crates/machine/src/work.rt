@@ -52,7 +52,14 @@ pub struct Worked {
     pub crashed: bool,
 }
 
-fn left_beside(answer: Answer, marks: Marks, glb: u32, recovery: Recovery, tx: Tx, crashed: bool) -> Worked
+fn left_beside(
+    answer: Answer,
+    marks: Marks,
+    glb: u32,
+    recovery: Recovery,
+    tx: Tx,
+    crashed: bool,
+) -> Worked
     ensures { λ r. ⌜ r ≡ record { after = record { answer = answer; held = record { marks = marks; glb = glb; recovery = recovery } }; tx = tx; crashed = crashed } ⌝ }
 {
     let held = Held {

@@ -89,9 +89,9 @@ crash-on ys i h = rw (add-one i) (crash-next ys i h)
 pub crashed-all : (ys : List Tx) (n : ℕ) → length ys ≡ n → over n (crashTxs ys) ys ≡ crashTxs ys
 crashed-all ys n e = over-all n (crashTxs ys) ys (crashes-length ys ∙ e) e
 
-pub crashed : (cut : Bool) (ys : List Tx) → over (pick cut (length ys) 0) (crashTxs ys) ys ≡ pick cut (crashTxs ys) ys
-crashed false ys = refl
-crashed true ys = crashed-all ys (length ys) refl
+pub crashed-if : (crashed : Bool) (ys : List Tx) → over (pick crashed (length ys) 0) (crashTxs ys) ys ≡ pick crashed (crashTxs ys) ys
+crashed-if false ys = refl
+crashed-if true ys = crashed-all ys (length ys) refl
 
 -- ---- fitness
 pub looked-next : (n : ℕ) (ys : List Tx) (i : ℕ) → i < length ys → pick (unfitTxs n (take i ys)) true (unfitTx n (recordAt ys i)) ≡ unfitTxs n

@@ -55,11 +55,11 @@ pub fn unfit(txs: &[Tx], n: usize) -> bool
     either(txs.len(), bad)
 }
 
-// If a crash cut them, what it leaves of the records.
-pub fn crash_if(txs: &mut [Tx], cut: bool)
-    ensures { λ _. ⌜ now (txs .exit) ≡ pick cut (crashTxs (now (txs .entry))) (now (txs .entry)) ⌝ }
+// If there was a crash, what it leaves of the records.
+pub fn crash_if(txs: &mut [Tx], crashed: bool)
+    ensures { λ _. ⌜ now (txs .exit) ≡ pick crashed (crashTxs (now (txs .entry))) (now (txs .entry)) ⌝ }
 {
-    let end = all_if(cut, txs.len());
+    let end = all_if(crashed, txs.len());
     let mut i: usize = 0;
     while i < end {
         txs[i] = crash_tx(txs[i]);

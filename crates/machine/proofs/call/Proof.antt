@@ -32,21 +32,17 @@ use denote.Triple.Statement.{Triple}
 use denote.Triple.Table.{entered, cited}
 use denote.Triple.Walked.{says}
 use Rattle.bits.specs.Marks.{pick}
-use Rattle.dtml.specs.declared.Act.{Act}
+use Rattle.dtml.specs.declared.Call.{Call}
 use Rattle.dtml.specs.declared.Tx.{Tx}
-use Rattle.dtml.specs.Acts.{callOf}
 use Rattle.dtml.specs.Store.{memory, recordAt}
 use Rattle.dtml.specs.Lines.{crashTxs}
 use Rattle.dtml.specs.First.{anyOf}
 use Rattle.dtml.specs.Checks.{unfitTxs}
-use Rattle.dtml.proofs.Act as Act′
-use Rattle.dtml.proofs.Act.Laws as ActL
+use Rattle.dtml.proofs.Call as Call′
+use Rattle.dtml.proofs.Call.Laws as CallL
 use Rattle.dtml.proofs.Tx as T
 use Rattle.dtml.proofs.Tx.Laws as T′
-use Rattle.doing.specs.Carrying.{slotOf}
-use Rattle.doing.proofs.slot.Symbol as slot-def
-use Rattle.doing.proofs.slot.Symbol.{name as #slot}
-use Rattle.doing.proofs.slot.Met as slot-thm
+use Rattle.dtml.specs.Handed.{slotOf}
 use Rattle.records.proofs.Walk.{has, begins, leaves, sinks, held, sets}
 use Rattle.records.proofs.Lent.{vals, Fits, typed, word-ok}
 use Rattle.records.proofs.unfit.Symbol as unfit-def
@@ -72,6 +68,9 @@ use Rattle.machine.proofs.After as A′
 use Rattle.machine.proofs.After.Laws as AL
 use Rattle.machine.proofs.work.Worked as W′
 use Rattle.machine.proofs.work.Worked.Laws as WL
+use Rattle.machine.proofs.work.slot.Symbol as slot-def
+use Rattle.machine.proofs.work.slot.Symbol.{name as #slot}
+use Rattle.machine.proofs.work.slot.Met as slot-thm
 use Rattle.machine.proofs.work.work.Symbol as work-def
 use Rattle.machine.proofs.work.work.Symbol.{name as #work}
 use Rattle.machine.proofs.work.work.Met as work-thm
@@ -82,7 +81,7 @@ use Rattle.machine.proofs.call.Code as code
 
 -- the six callees
 abbrev Slot : Callee (Unit {0}) (Unit {0})
-Slot = record { Rs = Act′.the-row ∷ []; Q = usize; vals = uint-vals w64; tells = uint-tells w64; says = λ _ a r _. (r ≡ slotOf (callOf (a .0))) × (r < 64) }
+Slot = record { Rs = Call′.the-row ∷ []; Q = usize; vals = uint-vals w64; tells = uint-tells w64; says = λ _ a r _. (r ≡ slotOf (a .0)) × (r < 64) }
 
 abbrev Unfit : Callee (List Tx) (Unit {0})
 Unfit = record {
@@ -98,12 +97,12 @@ Get = record { Rs = usize ∷ []; Q = T.the-row; vals = vals; tells = LL.tells T
 
 abbrev Work : Callee (Triple-of (List ℕ)) (Triple-of (List ℕ))
 Work = record {
-  Rs = H′.the-row ∷ bool ∷ T.the-row ∷ Act′.the-row ∷ [];
+  Rs = H′.the-row ∷ bool ∷ T.the-row ∷ Call′.the-row ∷ [];
   Q = W′.the-row;
   vals = LL.vals W′.the-type WL.the-laws;
   tells = LL.tells W′.the-type WL.the-laws;
   says = λ w a r w′. workedOf r (w′ .0) (w′ .1 .0) (w′ .1 .1)
-      ≡ worked (memory (w .0) (w .1 .0) (w .1 .1) (a .0 .marks) (a .0 .glb)) (a .0 .recovery) (a .1 .0) (a .1 .1 .0) (callOf (a .1 .1 .1 .0));
+      ≡ worked (memory (w .0) (w .1 .0) (w .1 .1) (a .0 .marks) (a .0 .glb)) (a .0 .recovery) (a .1 .0) (a .1 .1 .0) (a .1 .1 .1 .0);
 }
 
 abbrev Put : Callee (List Tx) (List Tx)
@@ -117,18 +116,18 @@ module _ {M : Type 1} (𝓤 : URA M) (H : Heap 𝓤) (A : Atoms 𝓤) (W : Given
     (known-slot : Triple 𝓤 (C #slot) (ByValue Slot 𝓤 H A)) (known-unfit : Triple 𝓤 (C #unfit) (Reading 𝓤 H A Unfit))
     (known-get : Triple 𝓤 (C #get) (Reading 𝓤 H A Get)) (known-work : Triple 𝓤 (C #work) (Handing 𝓤 H A Work))
     (known-put : Triple 𝓤 (C #put) (Writing 𝓤 H A Put)) (known-crash : Triple 𝓤 (C #crash-if) (Writing 𝓤 H A CrashIf)) (z : Rows) (h : Held) (hv : Val)
-    (h-is : Is H′.the-row h (hv ∷ [])) (act : Act) (av : Val) (act-is : Is Act′.the-row act (av ∷ [])) where
+    (h-is : Is H′.the-row h (hv ∷ [])) (asked : Call) (av : Val) (asked-is : Is Call′.the-row asked (av ∷ [])) where
   abbrev end : Val → SProp 𝓤
-  end = Ended-at 𝓤 H A W (H′.the-row ∷ Act′.the-row ∷ []) A′.the-row (f.clauses 𝓤 H A mem run) z (h, (act, tt)) (hv ∷ [], (av ∷ [], tt)) tt
+  end = Ended-at 𝓤 H A W (H′.the-row ∷ Call′.the-row ∷ []) A′.the-row (f.clauses 𝓤 H A mem run) z (h, (asked, tt)) (hv ∷ [], (av ∷ [], tt)) tt
 
   abbrev start : List Val
-  start = passed-on 𝓤 H A W (H′.the-row ∷ Act′.the-row ∷ []) A′.the-row (f.clauses 𝓤 H A mem run) z (h, (act, tt)) (hv ∷ [], (av ∷ [], tt)) tt
+  start = passed-on 𝓤 H A W (H′.the-row ∷ Call′.the-row ∷ []) A′.the-row (f.clauses 𝓤 H A mem run) z (h, (asked, tt)) (hv ∷ [], (av ∷ [], tt)) tt
 
   abbrev the-held : Passed 𝓤 H A H′.the-row
   the-held = of 𝓤 H A H′.the-row (LL.makes H′.the-type HL.the-plain 𝓤 H A) h hv h-is
 
-  abbrev the-act : Passed 𝓤 H A Act′.the-row
-  the-act = of 𝓤 H A Act′.the-row (EL.makes Act′.the-type ActL.the-plain 𝓤 H A) act av act-is
+  abbrev the-call : Passed 𝓤 H A Call′.the-row
+  the-call = of 𝓤 H A Call′.the-row (EL.makes Call′.the-type CallL.the-plain 𝓤 H A) asked av asked-is
 
   abbrev a-record : (t : Tx) → Fits t → Passed 𝓤 H A T.the-row
   a-record t is = of 𝓤 H A T.the-row (LL.makes T.the-type T′.the-plain 𝓤 H A) t (only (vals t)) is
@@ -141,8 +140,8 @@ module _ {M : Type 1} (𝓤 : URA M) (H : Heap 𝓤) (A : Atoms 𝓤) (W : Given
       pass1 ! (init ! 3 refl (tt, (tt, (record { fits = z .r₀ .0 }, tt)))) $ pass1 ! (init ! 4 refl (tt, (tt, (record { fits = z .r₁ .0 }, tt)))) $
       pass1 ! (init ! 5 refl (tt, (tt, (record { fits = z .r₂ .0 }, tt)))) $ pass1 ! (init ! 6 refl (tt, (tt, (record { fits = z .r₃ .0 }, tt)))) $
       pass1 ! (init ! 7 refl (LL.lawful H′.the-type HL.the-laws 𝓤 H A W .typed h _ h-is .0)) $
-      pass1 ! (init ! 8 refl (EL.lawful Act′.the-type ActL.the-laws 𝓤 H A W tt .typed act _ act-is .0)) $ pass0 ! $
-      comes ! fm (by-value Slot 𝓤 H A W (C #slot) (fm #slot) known-slot _ (the-act, tt))
+      pass1 ! (init ! 8 refl (EL.lawful Call′.the-type CallL.the-laws 𝓤 H A W tt .typed asked _ asked-is .0)) $ pass0 ! $
+      comes ! fm (by-value Slot 𝓤 H A W (C #slot) (fm #slot) known-slot _ (the-call, tt))
       (λ _. and-then ! (held ! 8 refl) (no-more !)) (λ i e. land ! (from ! (stop !)) (init ! 9 refl (word-ok (e .0 .1))) $
       relends ! 6 13 14 refl refl tt tt (z .r₃ .0) $ sets ! (of-opd ! (count ! 3 refl refl)) 15 refl (word-ok (z .r₀ .0)) $
       comes ! fm (lent 𝓤 H A W (C #unfit) (fm #unfit) z Unfit known-unfit (word 𝓤 H A W (length (now (z .vol))) (z .r₀ .0), tt))
@@ -152,7 +151,7 @@ module _ {M : Type 1} (𝓤 : URA M) (H : Heap 𝓤) (A : Atoms 𝓤) (W : Given
       (λ _. and-then ! (held ! 17 refl) (and-then ! (held ! 9 refl) (no-more !))) (λ t e₂. land ! (from ! (stop !)) (init ! 11 refl (typed 𝓤 H A W t (e₂ .0))) $
       relends ! 3 18 19 refl refl tt tt (z .r₀ .0) $ relends ! 4 20 21 refl refl tt tt (z .r₁ .0) $ relends ! 5 22 23 refl refl tt tt (z .r₂ .0) $
       move ! (1 ∷ 0 ∷ []) $
-      comes ! fm (handed 𝓤 H A W (C #work) (fm #work) z Work known-work (the-held, (flag 𝓤 H A W bad, (a-record t (e₂ .0), (the-act, tt)))))
+      comes ! fm (handed 𝓤 H A W (C #work) (fm #work) z Work known-work (the-held, (flag 𝓤 H A W bad, (a-record t (e₂ .0), (the-call, tt)))))
       (λ _. and-then ! (held ! 19 refl) (and-then ! (held ! 21 refl) (and-then ! (held ! 23 refl) (and-then ! (held ! 7 refl) (and-then ! (held ! 10 refl)
       (and-then ! (held ! 11 refl) (and-then ! (held ! 8 refl) (no-more !)))))))) (λ x e₃.
       land ! (from ! (stop !)) (init ! 12 refl (LL.lawful W′.the-type WL.the-laws 𝓤 H A W .typed (x .0) _ (e₃ .0) .0)) $
@@ -163,7 +162,7 @@ module _ {M : Type 1} (𝓤 : URA M) (H : Heap 𝓤) (A : Atoms 𝓤) (W : Given
       (and-then ! (load ! (from ! (fld ! refl (stop !))) (look-in ! 12 (sub ! 1 refl (whole !)))) (no-more !))))
       (λ y e₄. land ! (from ! (stop !)) (init ! 24 refl (tt, tt)) $
       relends ! 6 27 28 refl refl tt tt (z .r₃ .0) $
-      comes ! fm (lent-again 𝓤 H A W (C #crash-if) (fm #crash-if) z CrashIf known-crash (flag 𝓤 H A W (x .0 .cut), tt) (y .1) (e₄ .1 .0))
+      comes ! fm (lent-again 𝓤 H A W (C #crash-if) (fm #crash-if) z CrashIf known-crash (flag 𝓤 H A W (x .0 .crashed), tt) (y .1) (e₄ .1 .0))
       (λ _. and-then ! (held ! 28 refl) (and-then ! (load ! (from ! (fld ! refl (stop !))) (look-in ! 12 (sub ! 2 refl (whole !)))) (no-more !)))
       (λ y₁ e₅. land ! (from ! (stop !)) (store ! 24 refl (tt, tt)) $
       sets ! (of-opd ! (load ! (from ! (fld ! refl (stop !))) (look-in ! 12 (sub ! 0 refl (whole !))))) 2 refl
@@ -171,10 +170,10 @@ module _ {M : Type 1} (𝓤 : URA M) (H : Heap 𝓤) (A : Atoms 𝓤) (W : Given
       returns ! (look ! 2 refl) $ move ! (1 ∷ 0 ∷ []) $ sinks ! 2 $
       leaves ! (has _ ∷ has _ ∷ has _ ∷ has _ ∷ has _ ∷ has _ ∷ has _ ∷ has _ ∷ has _ ∷ has _ ∷ has _ ∷ has _ ∷ has _ ∷ has _ ∷ has _ ∷ has _ ∷ has _ ∷
       has _ ∷ has _ ∷ has _ ∷ has _ ∷ has _ ∷ has _ ∷ has _ ∷ has _ ∷ has _ ∷ has _ ∷ []) tt refl $
-      suffices ! _ (ends 𝓤 H A W (H′.the-row ∷ Act′.the-row ∷ []) A′.the-row (f.clauses 𝓤 H A mem run) z (h, (act, tt)) (hv ∷ [], (av ∷ [], tt)) tt
+      suffices ! _ (ends 𝓤 H A W (H′.the-row ∷ Call′.the-row ∷ []) A′.the-row (f.clauses 𝓤 H A mem run) z (h, (asked, tt)) (hv ∷ [], (av ∷ [], tt)) tt
       (LL.makes A′.the-type AL.the-plain 𝓤 H A) (x .0 .after) _ (LL.owed W′.the-type WL.the-laws (x .0) _ (e₃ .0) .0) (x .1) (e₃ .1) (y₁ .1) (e₅ .1 .0)
       (tt, (tt, tt))) $ frame ! $
-      says ! (called-whole (now (z .vol)) (now (z .pers)) (now (z .old)) h (now (z .txs)) (callOf act) (x .0)
+      says ! (called-whole (now (z .vol)) (now (z .pers)) (now (z .old)) h (now (z .txs)) asked (x .0)
       (e .1 .0) (e₁ .1) (e₂ .1) (e₃ .2) (e₄ .1 .1) (e₅ .1 .1)) $ done !)))))))
 
 call-meets : {M : Type 1} (𝓤 : URA M) (H : Heap 𝓤) (A : Atoms 𝓤) → Given 𝓤 H A → (mem : Memory → SProp 𝓤) (run : Routine → Fun 𝓤) (𝓣 : Tables 𝓤 H)
@@ -182,9 +181,9 @@ call-meets : {M : Type 1} (𝓤 : URA M) (H : Heap 𝓤) (A : Atoms 𝓤) → Gi
     → Triple 𝓤 (𝓣 .C #work) (Handing 𝓤 H A Work) → Triple 𝓤 (𝓣 .C #put) (Writing 𝓤 H A Put) → Triple 𝓤 (𝓣 .C #crash-if) (Writing 𝓤 H A CrashIf)
     → Meets 𝓤 H A f.signature (WpFn 𝓤 H (𝓣 .C) (𝓣 .Λ) code.function) (f.spec 𝓤 H A mem run)
 call-meets 𝓤 H A W mem run 𝓣 k₁ k₂ k₃ k₄ k₅ k₆ =
-    four-meets 𝓤 H A W (H′.the-row ∷ Act′.the-row ∷ []) A′.the-row (f.clauses 𝓤 H A mem run) 𝓣 code.function (λ x f. refl, (λ x f. refl, tt))
-    (λ κs. (LL.vals H′.the-type HL.the-laws, (EL.vals Act′.the-type ActL.the-laws, tt)))
-    (λ κs. (LL.tells H′.the-type HL.the-laws, (EL.tells Act′.the-type ActL.the-laws, tt)))
+    four-meets 𝓤 H A W (H′.the-row ∷ Call′.the-row ∷ []) A′.the-row (f.clauses 𝓤 H A mem run) 𝓣 code.function (λ x f. refl, (λ x f. refl, tt))
+    (λ κs. (LL.vals H′.the-type HL.the-laws, (EL.vals Call′.the-type CallL.the-laws, tt)))
+    (λ κs. (LL.tells H′.the-type HL.the-laws, (EL.tells Call′.the-type CallL.the-laws, tt)))
     (λ z a g are. walk 𝓤 H A W mem run (𝓣 .C) (𝓣 .Λ) (fmOf 𝓤 H (W .laws) 𝓣) k₁ k₂ k₃ k₄ k₅ k₆ z (a .0) _ (are .0) (a .1 .0) _ (are .1 .0))
 
 pub call-spec : {M : Type 1} → stated.statement M
@@ -193,7 +192,7 @@ call-spec 𝓤 H 𝓜 𝓖 𝓡 =
     entered 𝓤 H (tripleOf 𝓤 H (𝓖 .A) f.signature (f.spec 𝓤 H (𝓖 .A) (𝓜 .mem) (𝓡 .run)))
     (tables 𝓤 H 𝓜 𝓡 code.env .C) (tables 𝓤 H 𝓜 𝓡 code.env .Λ) #call code.function (code.unfolded 𝓤 H 𝓜 𝓡)
     (call-meets 𝓤 H (𝓖 .A) (givenOf 𝓤 H 𝓜 𝓖) (𝓜 .mem) (𝓡 .run) (tablesOf 𝓤 H 𝓜 (tables 𝓤 H 𝓜 𝓡 code.env))
-    (cited 𝓤 H (ByValue Slot 𝓤 H (𝓖 .A)) 𝓜 𝓡 code.env #slot slot-def.routine code.calls-doing·slot (slot-thm.met 𝓤 H 𝓜 𝓖 𝓡))
+    (cited 𝓤 H (ByValue Slot 𝓤 H (𝓖 .A)) 𝓜 𝓡 code.env #slot slot-def.routine code.calls-machine·work·slot (slot-thm.met 𝓤 H 𝓜 𝓖 𝓡))
     (cited 𝓤 H (Reading 𝓤 H (𝓖 .A) Unfit) 𝓜 𝓡 code.env #unfit unfit-def.routine code.calls-records·unfit (unfit-thm.met 𝓤 H 𝓜 𝓖 𝓡))
     (cited 𝓤 H (Reading 𝓤 H (𝓖 .A) Get) 𝓜 𝓡 code.env #get get-def.routine code.calls-records·get (get-thm.met 𝓤 H 𝓜 𝓖 𝓡))
     (cited 𝓤 H (Handing 𝓤 H (𝓖 .A) Work) 𝓜 𝓡 code.env #work work-def.routine code.calls-machine·work·work (work-thm.met 𝓤 H 𝓜 𝓖 𝓡))

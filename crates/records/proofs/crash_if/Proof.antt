@@ -46,7 +46,7 @@ use Rattle.system.proofs.crash_tx.Symbol as crash-tx
 use Rattle.system.proofs.crash_tx.Met as crash-tx-thm
 use Rattle.records.proofs.bounds.all_if.Symbol as all-if
 use Rattle.records.proofs.bounds.all_if.Met as all-if-thm
-use Rattle.records.proofs.Over.{over, over-length, all-if-le, crashes-length, crash-next, crashed}
+use Rattle.records.proofs.Over.{over, over-length, all-if-le, crashes-length, crash-next, crashed-if}
 use Rattle.records.proofs.Walk.{bare, has, begins, leaves, sinks, held, sets, gets, counts, meets}
 use Rattle.records.proofs.Lent.{Room, word, word-ok, slice-ok, records, ref, Mut, Closes, typed, store-elem, fetches, start, count, opens, closes, owns-flag, owns-unit}
 use Rattle.records.proofs.Calls.{AllIf, CrashTx, asks-all-if, asks-crash-tx}
@@ -59,24 +59,24 @@ abbrev stayed : Stays (f.ended .signature .params) (f.ended .kept)
 stayed = (stay-slice (0 ∷ []) tt (plain (λ _. R.the-row)), (stay-none (λ _. bool) yes, tt))
 
 module _ {M : Type 1} (𝓤 : URA M) (H : Heap 𝓤) (A : Atoms 𝓤) (W : Given 𝓤 H A) (mem : Memory → SProp 𝓤) (run : Routine → Fun 𝓤)
-    (κ : Lft) (q : Share) (b o : ℕ) (γ : GName) (ys : List Tx) (cut : Bool) (room : Room (length ys)) where
+    (κ : Lft) (q : Share) (b o : ℕ) (γ : GName) (ys : List Tx) (crashed : Bool) (room : Room (length ys)) where
   abbrev s : Val
   s = sliceVal (b, o) (length ys)
 
   abbrev x : RefT (List Tx) × (Bool × Unit {0})
-  x = (ref b o γ ys, (cut, tt))
+  x = (ref b o γ ys, (crashed, tt))
 
   abbrev at : Vals f.signature (κ, tt)
-  at = (s ∷ [], (vbool cut ∷ [], tt))
+  at = (s ∷ [], (vbool crashed ∷ [], tt))
 
   abbrev Post : Val → SProp 𝓤
   Post = walkOf 𝓤 H A f.ended stayed (f.clauses 𝓤 H A mem run) .post (((κ, tt), (q, tt), tt, x, at), tt)
 
-  exits : (zs : List Tx) → zs ≡ pick cut (crashTxs ys) ys → length zs ≡ length ys → ent 𝓤 (⋆ 𝓤 H A (‵ (Mut b o γ κ ys zs) ∷ ‵ (flft κ q) ∷ [])) (Post vunit)
+  exits : (zs : List Tx) → zs ≡ pick crashed (crashTxs ys) ys → length zs ≡ length ys → ent 𝓤 (⋆ 𝓤 H A (‵ (Mut b o γ κ ys zs) ∷ ‵ (flft κ q) ∷ [])) (Post vunit)
   exits zs e l =
       qed W (‵ (Mut b o γ κ ys zs) ∷ ‵ (flft κ q) ∷ []) ∵
       suffices ! _ (ends-at 𝓤 H A f.ended stayed (f.clauses 𝓤 H A mem run) W (((κ, tt), (q, tt), tt, x, at), tt) vunit tt (zs, (tt, tt)) (l, (tt, tt))) $
-      says ! e $ nothing ! $ move ! (2 ∷ 0 ∷ []) $ join ! $ frame ! $ nothing ! $ owns-flag ! cut $ fjoin ! $ move ! (1 ∷ 0 ∷ []) $ fjoin ! $ frame ! $
+      says ! e $ nothing ! $ move ! (2 ∷ 0 ∷ []) $ join ! $ frame ! $ nothing ! $ owns-flag ! crashed $ fjoin ! $ move ! (1 ∷ 0 ∷ []) $ fjoin ! $ frame ! $
       owns-unit ! $ done !
 
   -- the row after i turns
@@ -86,29 +86,29 @@ module _ {M : Type 1} (𝓤 : URA M) (H : Heap 𝓤) (A : Atoms 𝓤) (W : Given
   long : (i : ℕ) → i ≤ length ys → length (turned i) ≡ length ys
   long i l = over-length (crashTxs ys) ys i (omega (arith, crashes-length ys)) l
 
-  module _ (m : ℕ) (m-is : m ≡ pick cut (length ys) 0) where
+  module _ (m : ℕ) (m-is : m ≡ pick crashed (length ys) 0) where
     within : m ≤ length ys
-    within = subst (λ (j : ℕ). j ≤ length ys) (sym m-is) (all-if-le cut (length ys))
+    within = subst (λ (j : ℕ). j ≤ length ys) (sym m-is) (all-if-le crashed (length ys))
 
-    ends-as : turned m ≡ pick cut (crashTxs ys) ys
-    ends-as = ap turned m-is ∙ crashed cut ys
+    ends-as : turned m ≡ pick crashed (crashTxs ys) ys
+    ends-as = ap turned m-is ∙ crashed-if crashed ys
 
   walk : (𝓣 : Tables 𝓤 H) → FmC 𝓤 H (W .laws) (𝓣 .C) → Triple 𝓤 (𝓣 .C all-if.name) (AllIf 𝓤 H A mem run)
       → Triple 𝓤 (𝓣 .C crash-tx.name) (CrashTx 𝓤 H A mem run)
-      → ent 𝓤 (onEntry 𝓤 H A f.signature (κ, tt) (q, tt) x at) (WpFn 𝓤 H (𝓣 .C) (𝓣 .Λ) code.function (s ∷ vbool cut ∷ []) Post)
+      → ent 𝓤 (onEntry 𝓤 H A f.signature (κ, tt) (q, tt) x at) (WpFn 𝓤 H (𝓣 .C) (𝓣 .Λ) code.function (s ∷ vbool crashed ∷ []) Post)
   unfolding afterTurn
   walk 𝓣 fm known-all-if known-crash-tx =
       qed W ((‵ (flft κ q) ⊛ ‵ ftrue) ∷ ‵ (owns (MutSlice (named 0) κ R.the-row ∷ bool ∷ []) x at) ∷ []) ∵
-      enter ! (𝓣 .C) (𝓣 .Λ) code.function (s ∷ vbool cut ∷ []) _ $ begins ! (λ l₀ l₁ l₂ l₃ l₄ l₅ l₆ l₇ l₈ l₉ l₁₀ l₁₁ l₁₂. params1 ! $
+      enter ! (𝓣 .C) (𝓣 .Λ) code.function (s ∷ vbool crashed ∷ []) _ $ begins ! (λ l₀ l₁ l₂ l₃ l₄ l₅ l₆ l₇ l₈ l₉ l₁₀ l₁₁ l₁₂. params1 ! $
       pass1 ! (init ! 1 refl (slice-ok mut b o (length ys) room)) $ pass1 ! (init ! 2 refl (tt, tt)) $ pass0 ! $
       move ! (26 ∷ 27 ∷ []) $ opens ! tt κ q b o γ ys $ sinks ! 2 $
       -- [_0 0; …; _12 12; that each dies 13 …; the records 26; what closes them 27]
       sets ! (of-opd ! (count ! 1 refl refl)) 5 refl (word-ok (room .0)) $
-      asks-all-if ! fm mem run known-all-if cut (length ys) (room .0) (and-then ! (held ! 2 refl) (and-then ! (held ! 5 refl) (no-more !)))
+      asks-all-if ! fm mem run known-all-if crashed (length ys) (room .0) (and-then ! (held ! 2 refl) (and-then ! (held ! 5 refl) (no-more !)))
       (λ m m-is m-fits. gets ! 3 refl (word-ok m-fits) $
       sets ! (of-opd ! (lit ! tt)) 4 refl (word-ok (lit< tt)) $
       counts ! 𝓣 m
-      (λ i. bare ∷ has s ∷ has (vbool cut) ∷ has (vint w64 m) ∷ has (vint w64 i) ∷ has (vint w64 (length ys)) ∷ [])
+      (λ i. bare ∷ has s ∷ has (vbool crashed) ∷ has (vint w64 m) ∷ has (vint w64 i) ∷ has (vint w64 (length ys)) ∷ [])
       (λ i. ‵ (records fullShare (turned i) b o) ∷ ‵ (Closes b o γ κ q ys) ∷ []) refl
       (λ i. bin ! (held ! 4 refl) (held ! 3 refl) tt) 6 (λ i. refl) (λ z. tt)
       (λ i l.

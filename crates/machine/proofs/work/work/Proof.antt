@@ -1,41 +1,35 @@
--- `machine::work::work` meets its contract: unfit, here or in the row, by the table; else the call on what it was handed.
+-- `machine::work::work` meets its contract: an unfit row is refused; else it is what the call on one record, or on none, left.
 use borrow.Author.Needs.{needs}
-use Rattle.machine.proofs.Whole.{unfit-memory, unfit-row, fit-done}
+use Rattle.machine.proofs.Whole.{unfit-row, on-one, on-none}
 use Rattle.machine.proofs.work.work.Statement.{statement}
 use Rattle.machine.proofs.work.work.Tie as tie
 
-unfit-beside-requires : tie.Need-unfit-beside-requires
-unfit-beside-requires c κs = search needs
-
-kept-requires : tie.Need-kept-requires
-kept-requires c κs = search needs
+left-beside-requires : tie.Need-left-beside-requires
+left-beside-requires c κs = search needs
 
 returns : tie.Need-returns
 returns c =
-    let at-if1 = c .before in
-    let at-unfit-beside = at-if1 .before in
-    let at-args = at-unfit-beside .before .before .before .before .before in
-    unfit-memory _ _ _ (at-args .args .held) _ _ _ (at-unfit-beside .unfit-beside .ensures) (at-if1 .if1 .taken) (c .kept .ensures)
+    let test = c .before in
+    let args = test .before .before .before .before .before .args in
+    unfit-row _ _ _ (args .held) _ _ (test .if1 .taken) (c .left-beside .ensures)
 
-kept-requires-2 : tie.Need-kept-requires-2
-kept-requires-2 c κs = search needs
+enum-known-call : tie.Need-enum-known-call
+enum-known-call c = search needs
 
-returns-2 : tie.Need-returns-2
-returns-2 c =
-    let at-if2 = c .before in
-    let at-if1 = at-if2 .before in
-    let at-unfit-beside = at-if1 .before in
-    let at-args = at-unfit-beside .before .before .before .before .before in
-    unfit-row _ _ _ (at-args .args .held) _ _ _ (at-unfit-beside .unfit-beside .ensures) (at-if1 .if1 .left) (at-if2 .if2 .taken) (c .kept2 .ensures)
+call-one-requires : tie.Need-call-one-requires
+call-one-requires c κs = search needs
 
-carry-out-requires : tie.Need-carry-out-requires
-carry-out-requires c κs = search needs
+by-turn-requires : tie.Need-by-turn-requires
+by-turn-requires c κs = search needs
 
-reaches-all-requires : tie.Need-reaches-all-requires
-reaches-all-requires c κs = search needs
+enum-known-call-2 : tie.Need-enum-known-call-2
+enum-known-call-2 c = search needs
 
-put-together-requires : tie.Need-put-together-requires
-put-together-requires c κs = search needs
+call-system-requires : tie.Need-call-system-requires
+call-system-requires c κs = search needs
+
+by-event-requires : tie.Need-by-event-requires
+by-event-requires c κs = search needs
 
 same-length : tie.Need-same-length
 same-length c = search needs
@@ -46,29 +40,48 @@ same-length-2 c = search needs
 same-length-3 : tie.Need-same-length-3
 same-length-3 c = search needs
 
+returns-2 : tie.Need-returns-2
+returns-2 c =
+    let done = c .before .before .before .before .before .before .before in
+    let told = done .before .before .before .before .before .before .before in
+    let test = told .before .before in
+    let args = test .before .before .before .before .before .args in
+    on-one _ _ _ (args .held) _ _ (done .call-one .result) _ _ (test .if1 .left) (told .call .given .1) (done .call-one .ensures) (c .by-turn .ensures)
+
+same-length-4 : tie.Need-same-length-4
+same-length-4 c = search needs
+
+same-length-5 : tie.Need-same-length-5
+same-length-5 c = search needs
+
+same-length-6 : tie.Need-same-length-6
+same-length-6 c = search needs
+
 returns-3 : tie.Need-returns-3
 returns-3 c =
-    let at-reaches-all = c .before in
-    let at-carry-out = at-reaches-all .before .before .before .before .before .before .before in
-    let at-if2 = at-carry-out .before .before .before .before .before .before in
-    let at-if1 = at-if2 .before in
-    let at-unfit-beside = at-if1 .before in
-    let at-args = at-unfit-beside .before .before .before .before .before in
-    fit-done _ _ _ (at-args .args .held) _ _ _ (at-unfit-beside .unfit-beside .ensures) (at-if1 .if1 .left) (at-if2 .if2 .left) (at-carry-out .carry-out .ensures) (at-reaches-all .reaches-all .ensures) (c .put-together .ensures)
+    let done = c .before .before .before .before .before in
+    let told = done .before .before .before .before .before .before .before in
+    let test = told .before .before in
+    let args = test .before .before .before .before .before .args in
+    on-none _ _ _ (args .held) _ _ (done .call-system .result) _ _ (test .if1 .left) (told .call2 .given .1) (done .call-system .ensures) (c .by-event .ensures)
 
 pub work-spec : {M : Type 1} → statement M
 work-spec =
     tie.close
     (tie.spec
-    unfit-beside-requires
-    kept-requires
+    left-beside-requires
     returns
-    kept-requires-2
-    returns-2
-    carry-out-requires
-    reaches-all-requires
-    put-together-requires
+    enum-known-call
+    call-one-requires
+    by-turn-requires
+    enum-known-call-2
+    call-system-requires
+    by-event-requires
     same-length
     same-length-2
     same-length-3
+    returns-2
+    same-length-4
+    same-length-5
+    same-length-6
     returns-3)
