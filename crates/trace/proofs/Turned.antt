@@ -13,11 +13,11 @@ use Rattle.dtml.specs.declared.Ask.{Ask}
 use Rattle.dtml.specs.declared.Call.{Call}
 use Rattle.dtml.specs.declared.Call.the-variants.{On as on, Of as sys}
 use Rattle.dtml.specs.declared.Recovery.{Recovery}
-use Rattle.dtml.specs.declared.Recovery.the-variants.{C1}
+use Rattle.dtml.specs.declared.Recovery.the-variants.{Idle, C1}
 use Rattle.dtml.specs.declared.Sys.{Sys}
 use Rattle.dtml.specs.declared.Tx.{Tx}
 use Rattle.dtml.specs.Table.{Reply, reply, says}
-use Rattle.dtml.specs.Store.{Memory, memory, store, recordAt}
+use Rattle.dtml.specs.Store.{Memory, memory, Store, store, fresh, recordAt}
 use Rattle.dtml.specs.Checks.{notIdle}
 use Rattle.dtml.specs.Handed.{Turned, Happened, Left, turnLeft, eventLeft, callOne, callSystem, carry, isCrash, crashed, reach}
 use Rattle.dtml.proofs.Happens.{Counts, Counted, counted-so, refused-so, crash-marks}
@@ -33,13 +33,17 @@ use Rattle.reader.specs.Trace.{found, script, scriptOf}
 use Rattle.reader.specs.Said.{placeAfter}
 use Rattle.reader.proofs.Scripts.{script-end, script-stops, found-refusal, after-inside}
 use Rattle.text.specs.Buffer.{Buffer, buffer, puts}
+use Rattle.day.specs.declared.Ended.{Ended}
+use Rattle.day.specs.declared.Replayed.{Replayed}
 use Rattle.day.specs.declared.Totals.{Totals}
-use Rattle.day.specs.Replay.{totals, answerText, done}
+use Rattle.day.specs.Replay.{Replay, totals, answerText, done, endText}
+use Rattle.day.specs.Ends.{endingOf, Ends}
 use Rattle.day.specs.Counted.{counted, Few}
 use Rattle.day.proofs.Going.{totals-same, restOf, Going, going-on, ends-so, prints-so, text-so, Looping, one-line-so, next-record}
 use Rattle.trace.specs.declared.run.Course.{Course}
 use Rattle.trace.specs.declared.run.Moved.{Moved}
-use Rattle.trace.specs.Turning.{onCourse, stillOf, Moment, counts, callMoment, Moves, slotAt, turnOf, OneLine, OneLineAt, Brief, BriefAt, Through}
+use Rattle.trace.specs.declared.run.Reached.{Reached}
+use Rattle.trace.specs.Turning.{onCourse, stillOf, Moment, counts, callMoment, Moves, slotAt, turnOf, OneLine, OneLineAt, Brief, BriefAt, stoppedAt, Through}
 
 true-not : {A : Type 0} → true ≡ false → A
 true-not e = let z : _≡_ {A = ℕ} 0 1 = cc in absurd (omega arith)
@@ -263,3 +267,31 @@ module _ {bs : List ℕ} {n : ℕ} {first vol pers old marks out : List ℕ} {ts
     short = text-so n bs first (store m r ts) (c .totals) at (buffer out (c .place)) (loop .0) (c .refusal) e small (loop .1);
     few = next-record loop;
   }
+
+-- ---- before and after the loop
+
+-- the count and recovery of a fresh store
+pub fresh-held : (n : ℕ) {vol pers old marks : List ℕ} {glb : ℕ} {r : Recovery} {ts : List Tx} → store (memory vol pers old marks glb) r ts ≡ fresh n
+    → store (memory vol pers old marks 0) Idle ts ≡ fresh n
+unfolding fresh
+fresh-held n {vol} {pers} {old} {marks} {glb} {ts = ts} e =
+    ap (λ (g : ℕ). store (memory vol pers old marks g) Idle ts) (sym (ap (λ (s : Store). s .mem .glb) e))
+    ∙ ap (λ (x : Recovery). store (memory vol pers old marks glb) x ts) (sym (ap (λ (s : Store). s .rec) e))
+    ∙ e
+
+-- with the last lines the replay is done
+pub through-ends : {p : Replay} {x : Reached} {vol pers old marks first out out′ : List ℕ} {d : Ended} {y : Replayed}
+    → Through p x (memory vol pers old marks (x .course .glb)) first out
+    → d ≡ record { refusal = x .course .refusal; number = stoppedAt (x .course); totals = x .course .totals; length = d .length; held = record { marks = marks; glb = x .course .glb; recovery = x .recovery } }
+    → buffer out′ (d .length) ≡ puts (buffer out (x .course .place)) (endText (x .course .refusal) (stoppedAt (x .course)) (x .course .totals))
+    → y ≡ record { ended = d; changed = true; txs = x .txs }
+    → Ends p (y .ended) vol pers old (y .txs) first out′ × (y .changed ≡ true)
+through-ends {p} {x} {vol} {pers} {old} {first = first} {out′ = out′} {d} through ended printed changed =
+    subst (λ (z : Replayed). Ends p (z .ended) vol pers old (z .txs) first out′ × (z .changed ≡ true)) (sym changed) (
+      record {
+        ending = ap (λ (z : Ended). endingOf z vol pers old (x .txs)) ended ∙ through .ending;
+        text = through .text (buffer out′ (d .length)) printed;
+        short = through .short;
+      },
+      refl,
+    )
