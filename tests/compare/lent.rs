@@ -9,11 +9,11 @@ use std::panic::{catch_unwind, AssertUnwindSafe};
 pub enum Ask {
     MakeFresh,
     Begin { id: u64 },
-    Read { id: u64, word: u64 },
-    Write { id: u64, word: u64, value: u32 },
+    Read { id: u64, word: u32 },
+    Write { id: u64, word: u32, value: u32 },
     Commit { id: u64 },
     Step { id: u64 },
-    Flush { word: u64 },
+    Flush { word: u32 },
     Crash,
     Recover,
     RecoverUpTo { allowance: u64 },
@@ -146,16 +146,16 @@ pub fn read(n: &Numbers) -> Option<Store> {
 // ---- the plain program ----
 
 pub fn plain(s: &mut Store, ask: Ask) -> (u64, u64) {
-    // whatever is past 32 bits is past every row
+    // an identifier past 32 bits is past every row
     let narrow = |x: u64| x.min(u32::MAX as u64) as u32;
     let (number, value) = match ask {
         Ask::MakeFresh => store::make_fresh(s),
         Ask::Begin { id } => store::begin(s, narrow(id)),
-        Ask::Read { id, word } => store::read(s, narrow(id), narrow(word)),
-        Ask::Write { id, word, value } => store::write(s, narrow(id), narrow(word), value),
+        Ask::Read { id, word } => store::read(s, narrow(id), word),
+        Ask::Write { id, word, value } => store::write(s, narrow(id), word, value),
         Ask::Commit { id } => store::commit(s, narrow(id)),
         Ask::Step { id } => store::step(s, narrow(id)),
-        Ask::Flush { word } => store::flush(s, narrow(word)),
+        Ask::Flush { word } => store::flush(s, word),
         Ask::Crash => store::crash(s),
         Ask::Recover => store::recover(s),
         Ask::RecoverUpTo { allowance } => store::recover_up_to(s, allowance),

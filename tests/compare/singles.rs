@@ -44,7 +44,7 @@ fn mark(s: &mut Store, word: usize) {
 }
 
 /// Every call, with this identifier and this word.
-fn asks(id: u64, word: u64) -> Vec<Ask> {
+fn asks(id: u64, word: u32) -> Vec<Ask> {
     vec![
         Ask::MakeFresh,
         Ask::Begin { id },
@@ -96,7 +96,7 @@ fn row_lengths() -> Singles {
             let mut s = store_of(1);
             (s.vol, s.pers, s.old) = (words(1000, vol), words(2000, pers), words(3000, old));
             each(&s, &asks(0, 0), put);
-            each(&s, &asks(64, vol as u64), put);
+            each(&s, &asks(64, vol as u32), put);
             s.recovery = Recovery::C3 { word: 0, value: 7 };
             s.txs[0].phase = Phase::W5 { word: 0, value: 8 };
             each(&s, &asks(0, 0), put);
@@ -146,7 +146,7 @@ fn phases_and_recoveries() -> Singles {
                                 mark(&mut s, w);
                             }
                         }
-                        each(&s, &asks(id as u64, word as u64), put);
+                        each(&s, &asks(id as u64, word as u32), put);
                     }
                 }
             }
@@ -177,8 +177,8 @@ const IDENTIFIERS_ASKED: [u64; 10] = [0, 1, 63, 64, 65, 255, 256, PAST_32, PAST_
 /// Reads, writes and flushes of words at their edges, by identifiers at theirs.
 fn edges_asked(n: usize) -> Vec<Ask> {
     let mut all = Vec::new();
-    let n = n as u64;
-    for word in [0, n - 1, n, n + 1, 255, 256, PAST_32 - 1, PAST_32, PAST_32 + n - 1, HUGE] {
+    let n = n as u32;
+    for word in [0, n - 1, n, n + 1, 255, 256, 65_536, 65_536 + n - 1, 1 << 31, u32::MAX] {
         all.push(Ask::Flush { word });
         for id in IDENTIFIERS_ASKED {
             all.extend([Ask::Read { id, word }, Ask::Write { id, word, value: u32::MAX }]);
@@ -220,7 +220,7 @@ fn words_named() -> Singles {
                 _ => s.recovery = recovery_at(place - 15, word, word),
             }
             each(&s, &asks(0, 0), put);
-            each(&s, &[Ask::Begin { id: 1 }, Ask::Step { id: 9 }, Ask::Read { id: 64, word: edge as u64 }], put);
+            each(&s, &[Ask::Begin { id: 1 }, Ask::Step { id: 9 }, Ask::Read { id: 64, word: edge }], put);
         }
     })
 }
@@ -241,7 +241,7 @@ fn marks() -> Singles {
                 s.txs[0].phase = Phase::W4 { word, value: 5 };
                 s.txs[1].phase = Phase::W5 { word, value: 5 };
                 s.txs[2].phase = Phase::E2;
-                let mut some = vec![Ask::Recover, Ask::RecoverUpTo { allowance: HUGE }, Ask::Crash, Ask::Flush { word: word as u64 }];
+                let mut some = vec![Ask::Recover, Ask::RecoverUpTo { allowance: HUGE }, Ask::Crash, Ask::Flush { word }];
                 if line == 0 {
                     some.extend([Ask::Step { id: 0 }, Ask::Step { id: 1 }, Ask::Step { id: 2 }]);
                 }
@@ -288,11 +288,11 @@ fn unfit_at_once() -> Singles {
             numbers.records[4 * 30 + 2] = 1;
         }
         for id in [0, 64, HUGE] {
-            for word in [0, n as u64, HUGE] {
+            for word in [0, n as u32, u32::MAX] {
                 put(&numbers, Ask::Read { id, word });
                 put(&numbers, Ask::Write { id, word, value: 1 });
             }
-            for ask in [Ask::Begin { id }, Ask::Commit { id }, Ask::Step { id }, Ask::Flush { word: id }] {
+            for ask in [Ask::Begin { id }, Ask::Commit { id }, Ask::Step { id }, Ask::Flush { word: id as u32 }] {
                 put(&numbers, ask);
             }
         }
@@ -456,9 +456,9 @@ fn some_id(r: &mut Rng) -> u64 {
     if r.chance(1, 12) { IDENTIFIERS_ASKED[r.below(10) as usize] } else { r.below(IDENTIFIERS as u64) }
 }
 
-fn some_word(r: &mut Rng, n: usize) -> u64 {
-    let n = n as u64;
-    if r.chance(1, 12) || n == 0 { [n, n + 1, 256, PAST_32, HUGE][r.below(5) as usize] } else { r.below(n) }
+fn some_word(r: &mut Rng, n: usize) -> u32 {
+    let n = n as u32;
+    if r.chance(1, 12) || n == 0 { [n, n + 1, 256, 65_536, u32::MAX][r.below(5) as usize] } else { r.below(n as u64) as u32 }
 }
 
 fn some_ask(r: &mut Rng, n: usize) -> Ask {

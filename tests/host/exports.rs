@@ -17,11 +17,11 @@ macro_rules! exports {
 exports! {
     register_make_fresh();
     register_begin(id: u64);
-    register_read(id: u64, word: u64);
-    register_write(id: u64, word: u64, value: u32);
+    register_read(id: u64, word: u32);
+    register_write(id: u64, word: u32, value: u32);
     register_commit(id: u64);
     register_step(id: u64, value: *mut u64, values: usize);
-    register_flush(word: u64);
+    register_flush(word: u32);
     register_crash();
     register_recover();
     register_recover_up_to(allowance: u64, value: *mut u64, values: usize);

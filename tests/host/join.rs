@@ -6,9 +6,9 @@ mod register;
 
 use register::{Answer, Register};
 
-const LINK: u64 = 0;
-const HISTORY: u64 = 1;
-const AREA: u64 = 2;
+const LINK: u32 = 0;
+const HISTORY: u32 = 1;
+const AREA: u32 = 2;
 
 fn tell(what: &str, answer: Answer) {
     println!("{}: {} {}", what, answer.0, answer.1);
@@ -29,7 +29,7 @@ fn begin(r: &mut Register, id: u64) {
     tell("begin", steps(r, id));
 }
 
-fn write(r: &mut Register, id: u64, word: u64, value: u32) {
+fn write(r: &mut Register, id: u64, word: u32, value: u32) {
     r.write(id, word, value);
     tell("write", steps(r, id));
 }

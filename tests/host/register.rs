@@ -41,7 +41,7 @@ impl Register {
     pub fn begin(&mut self, id: u64) -> Answer {
         (call!(register_begin, self, id), 0)
     }
-    pub fn write(&mut self, id: u64, word: u64, value: u32) -> Answer {
+    pub fn write(&mut self, id: u64, word: u32, value: u32) -> Answer {
         (call!(register_write, self, id, word, value), 0)
     }
     pub fn commit(&mut self, id: u64) -> Answer {

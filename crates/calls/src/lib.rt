@@ -3,7 +3,8 @@
 // three of words, 8 numbers beside them and 256 for the records; any lengths and any numbers may be handed over, and those that spell no store are answered 9.
 // Each call gives the answer's number. Its value is 0 but for a step, so only a step takes a row for it: the value is put into the row's first number, if there
 // is one; a refused call (9 or above) leaves that row, too, as it was.
-use dtml::Act;
+use dtml::Ask;
+use dtml::Call;
 use numbers::asked;
 use numbers::call;
 ghost use mathlib.Core.Path.{_≡_};
@@ -24,7 +25,8 @@ pub extern "C" fn register_begin(
     ensures { λ r. ⌜ given r [] (rows (now (vol .exit)) (now (pers .exit)) (now (old .exit)) (now (held .exit)) (now (records .exit)))
         ≡ gives [] (callNumbers (rows (now (vol .entry)) (now (pers .entry)) (now (old .entry)) (now (held .entry)) (now (records .entry))) (on id begin)) ⌝ }
 {
-    asked(vol, pers, old, held, records, Act::Begin { id })
+    let ask = Ask::Begin;
+    asked(vol, pers, old, held, records, Call::On { id, ask })
 }
 
 #[no_mangle]
@@ -35,12 +37,13 @@ pub extern "C" fn register_read(
     held: &mut [u64],
     records: &mut [u32],
     id: u64,
-    word: u64,
+    word: u32,
 ) -> u64
     ensures { λ r. ⌜ given r [] (rows (now (vol .exit)) (now (pers .exit)) (now (old .exit)) (now (held .exit)) (now (records .exit)))
         ≡ gives [] (callNumbers (rows (now (vol .entry)) (now (pers .entry)) (now (old .entry)) (now (held .entry)) (now (records .entry))) (on id (read word))) ⌝ }
 {
-    asked(vol, pers, old, held, records, Act::Read { id, word })
+    let ask = Ask::Read { word };
+    asked(vol, pers, old, held, records, Call::On { id, ask })
 }
 
 #[no_mangle]
@@ -51,20 +54,14 @@ pub extern "C" fn register_write(
     held: &mut [u64],
     records: &mut [u32],
     id: u64,
-    word: u64,
+    word: u32,
     value: u32,
 ) -> u64
     ensures { λ r. ⌜ given r [] (rows (now (vol .exit)) (now (pers .exit)) (now (old .exit)) (now (held .exit)) (now (records .exit)))
         ≡ gives [] (callNumbers (rows (now (vol .entry)) (now (pers .entry)) (now (old .entry)) (now (held .entry)) (now (records .entry))) (on id (write word value))) ⌝ }
 {
-    asked(
-        vol,
-        pers,
-        old,
-        held,
-        records,
-        Act::Write { id, word, value },
-    )
+    let ask = Ask::Write { word, value };
+    asked(vol, pers, old, held, records, Call::On { id, ask })
 }
 
 #[no_mangle]
@@ -79,7 +76,8 @@ pub extern "C" fn register_commit(
     ensures { λ r. ⌜ given r [] (rows (now (vol .exit)) (now (pers .exit)) (now (old .exit)) (now (held .exit)) (now (records .exit)))
         ≡ gives [] (callNumbers (rows (now (vol .entry)) (now (pers .entry)) (now (old .entry)) (now (held .entry)) (now (records .entry))) (on id commit)) ⌝ }
 {
-    asked(vol, pers, old, held, records, Act::Commit { id })
+    let ask = Ask::Commit;
+    asked(vol, pers, old, held, records, Call::On { id, ask })
 }
 
 // One line of a transaction; the value is what was read, if the answer is 2.
@@ -96,5 +94,6 @@ pub extern "C" fn register_step(
     ensures { λ r. ⌜ given r (now (value .exit)) (rows (now (vol .exit)) (now (pers .exit)) (now (old .exit)) (now (held .exit)) (now (records .exit)))
         ≡ gives (now (value .entry)) (callNumbers (rows (now (vol .entry)) (now (pers .entry)) (now (old .entry)) (now (held .entry)) (now (records .entry))) (on id step)) ⌝ }
 {
-    call(vol, pers, old, held, records, Act::Step { id }, value)
+    let ask = Ask::Step;
+    call(vol, pers, old, held, records, Call::On { id, ask }, value)
 }

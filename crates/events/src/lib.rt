@@ -1,6 +1,7 @@
 // What happens to a store as a whole, for a host in another language, as `calls` has it for a transaction's record: making fresh, a system flush, a crash and
 // recovery. Only the call with an allowance has a value other than 0, and takes a row for it, which a refused call leaves as it was.
-use dtml::Act;
+use dtml::Call;
+use dtml::Sys;
 use numbers::asked;
 use numbers::call;
 use numbers::make_fresh;
@@ -32,12 +33,13 @@ pub extern "C" fn register_flush(
     old: &mut [u32],
     held: &mut [u64],
     records: &mut [u32],
-    word: u64,
+    word: u32,
 ) -> u64
     ensures { λ r. ⌜ given r [] (rows (now (vol .exit)) (now (pers .exit)) (now (old .exit)) (now (held .exit)) (now (records .exit)))
         ≡ gives [] (callNumbers (rows (now (vol .entry)) (now (pers .entry)) (now (old .entry)) (now (held .entry)) (now (records .entry))) (sys (flush word))) ⌝ }
 {
-    asked(vol, pers, old, held, records, Act::Flush { word })
+    let sys = Sys::Flush { word };
+    asked(vol, pers, old, held, records, Call::Of { sys })
 }
 
 #[no_mangle]
@@ -51,7 +53,8 @@ pub extern "C" fn register_crash(
     ensures { λ r. ⌜ given r [] (rows (now (vol .exit)) (now (pers .exit)) (now (old .exit)) (now (held .exit)) (now (records .exit)))
         ≡ gives [] (callNumbers (rows (now (vol .entry)) (now (pers .entry)) (now (old .entry)) (now (held .entry)) (now (records .entry))) (sys crash)) ⌝ }
 {
-    asked(vol, pers, old, held, records, Act::Crash)
+    let sys = Sys::Crash;
+    asked(vol, pers, old, held, records, Call::Of { sys })
 }
 
 // One line of recovery.
@@ -66,7 +69,8 @@ pub extern "C" fn register_recover(
     ensures { λ r. ⌜ given r [] (rows (now (vol .exit)) (now (pers .exit)) (now (old .exit)) (now (held .exit)) (now (records .exit)))
         ≡ gives [] (callNumbers (rows (now (vol .entry)) (now (pers .entry)) (now (old .entry)) (now (held .entry)) (now (records .entry))) (sys recover)) ⌝ }
 {
-    asked(vol, pers, old, held, records, Act::Recover)
+    let sys = Sys::Recover;
+    asked(vol, pers, old, held, records, Call::Of { sys })
 }
 
 // As many recovery lines as the allowance, or all that are left if those are fewer; the value is how many were carried out.
@@ -83,13 +87,6 @@ pub extern "C" fn register_recover_up_to(
     ensures { λ r. ⌜ given r (now (value .exit)) (rows (now (vol .exit)) (now (pers .exit)) (now (old .exit)) (now (held .exit)) (now (records .exit)))
         ≡ gives (now (value .entry)) (callNumbers (rows (now (vol .entry)) (now (pers .entry)) (now (old .entry)) (now (held .entry)) (now (records .entry))) (sys (recoverUpTo allowance))) ⌝ }
 {
-    call(
-        vol,
-        pers,
-        old,
-        held,
-        records,
-        Act::RecoverUpTo { allowance },
-        value,
-    )
+    let sys = Sys::RecoverUpTo { allowance };
+    call(vol, pers, old, held, records, Call::Of { sys }, value)
 }

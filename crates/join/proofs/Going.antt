@@ -13,13 +13,12 @@ use denote.Steps.{only}
 use denote.Struct.Laws as LL
 use Rattle.io.specs.Counts.{Counts}
 use Rattle.bits.specs.Marks.{pick}
-use Rattle.dtml.specs.declared.Act.{Act}
+use Rattle.dtml.specs.declared.Call.{Call}
 use Rattle.dtml.specs.declared.Phase.the-variants.{Fresh}
 use Rattle.dtml.specs.declared.Tx.{Tx}
 use Rattle.dtml.specs.Table.{Reply, reply}
 use Rattle.dtml.specs.Store.{tx, fresh}
 use Rattle.dtml.specs.Asked.{Outcome}
-use Rattle.dtml.specs.Acts.{callOf}
 use Rattle.dtml.specs.Checks.{unfitRows}
 use Rattle.dtml.specs.Calls.{call, makeFresh}
 use Rattle.machine.specs.declared.Held.{Held}
@@ -28,7 +27,7 @@ use Rattle.machine.specs.Given.{storeOf, outcomeOf}
 use Rattle.machine.proofs.Held as H′
 use Rattle.machine.proofs.Held.Laws as HL
 use Rattle.text.specs.Buffer.{Buffer, buffer, put, puts}
-use Rattle.join.specs.Join.{actAt, told, storeAt, outcomeAt, textAt}
+use Rattle.join.specs.Join.{askedAt, told, storeAt, outcomeAt, textAt}
 use Rattle.join.proofs.Lending.{Rows, these-rows, Long}
 
 abbrev pub rowsAt : ℕ → Rows
@@ -66,10 +65,10 @@ unfolding textAt
 started out = refl
 
 -- one call more
-module _ (i : ℕ) (z : Rows) (a : After) (act : Act) (is : act ≡ actAt i)
-    (e : outcomeOf (z .vol) (z .pers) (z .old) (z .txs) a ≡ call (storeOf (rowsAt i .vol) (rowsAt i .pers) (rowsAt i .old) (heldAt i) (rowsAt i .txs)) (callOf act)) where
+module _ (i : ℕ) (z : Rows) (a : After) (asked : Call) (is : asked ≡ askedAt i)
+    (e : outcomeOf (z .vol) (z .pers) (z .old) (z .txs) a ≡ call (storeOf (rowsAt i .vol) (rowsAt i .pers) (rowsAt i .old) (heldAt i) (rowsAt i .txs)) asked) where
   went : outcomeOf (z .vol) (z .pers) (z .old) (z .txs) a ≡ outcomeAt i
-  went = e ∙ ap (λ (x : Act). call (storeAt i) (callOf x)) is
+  went = e ∙ ap (call (storeAt i)) is
 
   pub called : Left (suc i) z a
   unfolding storeAt
@@ -78,11 +77,11 @@ module _ (i : ℕ) (z : Rows) (a : After) (act : Act) (is : act ≡ actAt i)
   answers : reply (a .answer) ≡ outcomeAt i .reply
   answers = ap (λ (x : Outcome). x .reply) went
 
-  pub wrote : (out bytes : List ℕ) (at : ℕ) → buffer bytes at ≡ puts (buffer (textAt out i .bytes) (textAt out i .at)) (told (callOf act) (reply (a .answer)) (rowsAt (suc i) .pers))
+  pub wrote : (out bytes : List ℕ) (at : ℕ) → buffer bytes at ≡ puts (buffer (textAt out i .bytes) (textAt out i .at)) (told asked (reply (a .answer)) (rowsAt (suc i) .pers))
       → buffer bytes at ≡ textAt out (suc i)
   unfolding storeAt textAt
-  wrote out bytes at f = f ∙ ap (λ (x : Act). puts (textAt out i) (told (callOf x) (reply (a .answer)) (rowsAt (suc i) .pers))) is
-      ∙ ap (λ (r : Reply). puts (textAt out i) (told (callOf (actAt i)) r (rowsAt (suc i) .pers))) answers
+  wrote out bytes at f = f ∙ ap (λ (x : Call). puts (textAt out i) (told x (reply (a .answer)) (rowsAt (suc i) .pers))) is
+      ∙ ap (λ (r : Reply). puts (textAt out i) (told (askedAt i) r (rowsAt (suc i) .pers))) answers
 
 -- what is known beside the values themselves
 pub record Stands (out : List ℕ) (i : ℕ) : Type 0 where

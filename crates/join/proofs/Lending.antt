@@ -33,15 +33,14 @@ use denote.Enum.Laws as EL
 use denote.Triple.Entry.{Args}
 use denote.Triple.Statement.{Contract, Triple}
 use denote.Triple.Clauses.{AtExit}
-use Rattle.dtml.specs.declared.Act.{Act}
 use Rattle.dtml.specs.declared.Answer.{Answer}
+use Rattle.dtml.specs.declared.Call.{Call}
 use Rattle.dtml.specs.declared.Tx.{Tx}
-use Rattle.dtml.specs.Acts.{callOf}
 use Rattle.dtml.specs.Table.{reply}
-use Rattle.dtml.proofs.Act as Act′
-use Rattle.dtml.proofs.Act.Laws as ActL
 use Rattle.dtml.proofs.Answer as Answer′
 use Rattle.dtml.proofs.Answer.Laws as AnswerL
+use Rattle.dtml.proofs.Call as Call′
+use Rattle.dtml.proofs.Call.Laws as CallL
 use Rattle.dtml.proofs.Tx as T
 use Rattle.records.proofs.Own.{Loan, lent-as, Lender, Lent, lends-own, takes-back}
 use Rattle.records.proofs.Lent.{owns-word}
@@ -172,13 +171,13 @@ module _ {M : Type 1} (𝓤 : URA M) (H : Heap 𝓤) (A : Atoms 𝓤) (W : Given
 -- ---- `tell`
 
 abbrev Tells : (κs : Lfts 2) (a : Args tl.signature κs) → ℕ → AtExit tl.ended κs → Type 0
-Tells κs a r e = buffer (now (e .0)) r ≡ puts (buffer (now (a .0)) (a .1 .0)) (told (callOf (a .1 .1 .0)) (reply (a .1 .1 .1 .0)) (now (a .1 .1 .1 .1 .0)))
+Tells κs a r e = buffer (now (e .0)) r ≡ puts (buffer (now (a .0)) (a .1 .0)) (told (a .1 .1 .0) (reply (a .1 .1 .1 .0)) (now (a .1 .1 .1 .1 .0)))
 
 abbrev pub Telling : {M : Type 1} (𝓤 : URA M) (H : Heap 𝓤) (A : Atoms 𝓤) → Contract 𝓤
 Telling 𝓤 H A = promised 𝓤 H A tl.ended Tells
 
 module _ {M : Type 1} (𝓤 : URA M) (H : Heap 𝓤) (A : Atoms 𝓤) (W : Given 𝓤 H A) (run : Fun 𝓤) (fm : (vs : List Val) → Fm 𝓤 (run vs)) (met : Triple 𝓤 run (Telling 𝓤 H A))
-    (at : ℕ) (act : Act) (av : Val) (act-is : Is Act′.the-row act (av ∷ [])) (answer : Answer) (wv : Val) (answer-is : Is Answer′.the-row answer (wv ∷ [])) (fits : at < 2 ^ 64)
+    (at : ℕ) (asked : Call) (av : Val) (asked-is : Is Call′.the-row asked (av ∷ [])) (answer : Answer) (wv : Val) (answer-is : Is Answer′.the-row answer (wv ∷ [])) (fits : at < 2 ^ 64)
     (b o l : ℕ) (pers : List ℕ) (long : length pers ≡ 4) (out : List ℕ) where
   -- the buffer and the persistent row
   abbrev pub Both : List ℕ → Item 𝓤
@@ -188,7 +187,7 @@ module _ {M : Type 1} (𝓤 : URA M) (H : Heap 𝓤) (A : Atoms 𝓤) (W : Given
   given n m = sliceVal (b, o) n ∷ vint w64 at ∷ av ∷ wv ∷ sliceVal (l, 0) m ∷ []
 
   abbrev Said : ℕ → ℕ × List ℕ → Type 0
-  Said n r = (r .0 < 2 ^ 64) × (length (r .1) ≡ n) × (buffer (r .1) (r .0) ≡ puts (buffer out at) (told (callOf act) (reply answer) pers))
+  Said n r = (r .0 < 2 ^ 64) × (length (r .1) ≡ n) × (buffer (r .1) (r .0) ≡ puts (buffer out at) (told asked (reply answer) pers))
 
   abbrev Out : ℕ → Val → ℕ × List ℕ → SProp 𝓤
   Out n v r = guard 𝓤 ((v ≡ vint w64 (r .0)) × Said n r) (mean 𝓤 H A (Both (r .1)))
@@ -200,7 +199,7 @@ module _ {M : Type 1} (𝓤 : URA M) (H : Heap 𝓤) (A : Atoms 𝓤) (W : Given
         (ν .0 ∷ [], (μ .0 ∷ [], tt)),
         (fullShare, (fullShare, tt)),
         tt,
-        (lent-as u8 b o ν out, (at, (act, (answer, (lent-as u32 l 0 μ pers, tt))))),
+        (lent-as u8 b o ν out, (at, (asked, (answer, (lent-as u32 l 0 μ pers, tt))))),
         (slice-vals (lent-as u8 b o ν out), (vint w64 at ∷ [], (av ∷ [], (wv ∷ [], (slice-vals (lent-as u32 l 0 μ pers), tt))))),
       ),
       tt,
@@ -237,7 +236,7 @@ module _ {M : Type 1} (𝓤 : URA M) (H : Heap 𝓤) (A : Atoms 𝓤) (W : Given
       pick ! (λ δ. split ! $
       -- [the persistent row's reference; what is kept of it; its token; the buffer's reference; its token; what is kept of it]
       nothing ! $ move ! (1 ∷ 0 ∷ []) $ fjoin ! $ owned ! Answer′.the-row (Is Answer′.the-row) (EL.makes Answer′.the-type AnswerL.the-plain 𝓤 H A) answer (wv ∷ []) answer-is $ fjoin ! $
-      owned ! Act′.the-row (Is Act′.the-row) (EL.makes Act′.the-type ActL.the-plain 𝓤 H A) act (av ∷ []) act-is $ fjoin ! $ owns-word ! at fits $ fjoin ! $ move ! (3 ∷ 0 ∷ []) $ fjoin ! $
+      owned ! Call′.the-row (Is Call′.the-row) (EL.makes Call′.the-type CallL.the-plain 𝓤 H A) asked (av ∷ []) asked-is $ fjoin ! $ owns-word ! at fits $ fjoin ! $ move ! (3 ∷ 0 ∷ []) $ fjoin ! $
       -- [what the callee's parameters own; what is kept of the row; its token; the buffer's token; what is kept of it]
       nothing ! $ move ! (3 ∷ 0 ∷ []) $ join ! $ move ! (3 ∷ 0 ∷ []) $ join ! $ join ! $ nothing ! $ move ! (1 ∷ 0 ∷ []) $
       use2 W (raw (run (given (length out) (length pers)) (λ v. mean 𝓤 H A (heard ν (μ, δ) v)))) (hears 𝓤 H A tl.ended Tells W run fm met (told-so ν (μ, δ)) (uint-vals w64) (uint-tells w64)) $

@@ -10,11 +10,10 @@ use lib.Seq.{drop-cons}
 use lib.Dec.{ltb}
 use Rattle.dtml.specs.Table.{Reply}
 use Rattle.dtml.specs.declared.Call.{Call}
-use Rattle.doing.specs.Carrying.{reachesAll}
 use Rattle.text.specs.Buffer.{Buffer, put, puts}
 use Rattle.text.specs.Text.{decimal}
 use Rattle.text.proofs.Laws.{puts-length, puts-then, then-byte}
-use Rattle.join.specs.Join.{crashText, linkText, historyText, areaText, line, answered, words, tells, told}
+use Rattle.join.specs.Join.{crashText, linkText, historyText, areaText, line, answered, words, tells, powerFails, told}
 
 -- one byte more of xs is put, after i of them
 pub put-next : (o p all : Buffer) (xs : List ℕ) (i d : ℕ) → i < length xs → puts o (drop i xs) ≡ all → p ≡ put o (getD xs i d) → puts p (drop (i + 1) xs) ≡ all
@@ -53,10 +52,10 @@ words-put o p q r s pers a b c ea eb ec e f g h =
     (then-byte q r s (areaText ++ decimal (getD pers 2 0)) 10 (g ∙ ap (λ (k : ℕ). puts q (areaText ++ decimal k)) ec) h))
 
 -- the flag and the numbers that the code has are the call's and its answer's
-pub told-so : (c : Call) (a : Reply) (pers : List ℕ) (o q : Buffer) (b : Bool) (n v : ℕ) → b ≡ reachesAll c → n ≡ a .number → v ≡ a .value
+pub told-so : (c : Call) (a : Reply) (pers : List ℕ) (o q : Buffer) (b : Bool) (n v : ℕ) → b ≡ powerFails c → n ≡ a .number → v ≡ a .value
     → q ≡ puts o (tells b n v pers) → q ≡ puts o (told c a pers)
 told-so c a pers o q b n v eb en ev e =
-    e ∙ ap (λ (z : Bool). puts o (tells z n v pers)) eb ∙ ap (λ (k : ℕ). puts o (tells (reachesAll c) k v pers)) en ∙ ap (λ (k : ℕ). puts o (tells (reachesAll c) (a .number) k pers)) ev
+    e ∙ ap (λ (z : Bool). puts o (tells z n v pers)) eb ∙ ap (λ (k : ℕ). puts o (tells (powerFails c) k v pers)) en ∙ ap (λ (k : ℕ). puts o (tells (powerFails c) (a .number) k pers)) ev
 
 pub tells-crash : (o p q : Buffer) (pers : List ℕ) (b : Bool) (n v : ℕ) → b ≡ true → p ≡ puts o (words pers) → q ≡ puts p (line crashText n v) → q ≡ puts o (tells b n v pers)
 unfolding tells

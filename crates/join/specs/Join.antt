@@ -1,40 +1,40 @@
 -- The host's calls, and what it writes of them.
 use Prim.Native.Nat.{ℕ, zero, suc}
-use mathlib.Core.Bool.{Bool}
+use mathlib.Core.Bool.{Bool, true, false}
 use mathlib.Core.List.{List, [], _∷_, _++_}
 use lib.ListN.{getD}
 use lib.Dec.{eqb, ltb}
 use Rattle.bits.specs.Marks.{pick}
-use Rattle.dtml.specs.declared.Act.{Act}
-use Rattle.dtml.specs.declared.Act.the-variants.{Begin, Write, Commit, Step, Crash, RecoverUpTo}
+use Rattle.dtml.specs.declared.Ask.{Ask}
+use Rattle.dtml.specs.declared.Ask.the-variants.{Begin as begin, Write as write, Commit as commit, Step as step}
+use Rattle.dtml.specs.declared.Sys.{Sys}
+use Rattle.dtml.specs.declared.Sys.the-variants.{Flush as flush, Crash as crash, Recover as recover, RecoverUpTo as recoverUpTo}
+use Rattle.dtml.specs.declared.Call.{Call}
+use Rattle.dtml.specs.declared.Call.the-variants.{On as on, Of as sys}
 use Rattle.dtml.specs.Table.{Reply}
 use Rattle.dtml.specs.Store.{Store, fresh}
-use Rattle.dtml.specs.declared.Call.{Call}
 use Rattle.dtml.specs.Asked.{Outcome}
-use Rattle.dtml.specs.Acts.{callOf}
 use Rattle.dtml.specs.Calls.{call}
-use Rattle.doing.specs.Carrying.{reachesAll}
 use Rattle.text.specs.Buffer.{Buffer, buffer, puts}
 use Rattle.text.specs.Text.{decimal}
 
 -- ---- the calls, by their place: an operation is asked for, and then its lines are done
 
-abbrev pub stepAt : ℕ → Act
-stepAt i = Step (pick (ltb i 17) 0 1)
+-- of the records; transaction 0 is cut by call 17, and then comes transaction 1
+unfoldable pub askAt : ℕ → Ask
+askAt i =
+    pick (eqb i 0) begin
+    (pick (eqb i 3) (write 0 41)
+    (pick (eqb i 11) (write 1 42)
+    (pick (eqb i 19) begin
+    (pick (eqb i 22) (write 0 41)
+    (pick (eqb i 30) (write 1 42)
+    (pick (eqb i 36) (write 2 43)
+    (pick (eqb i 42) commit
+    step)))))))
 
-unfoldable pub actAt : ℕ → Act
-actAt i =
-    pick (eqb i 0) (Begin 0)
-    (pick (eqb i 3) (Write 0 0 41)
-    (pick (eqb i 11) (Write 0 1 42)
-    (pick (eqb i 17) Crash
-    (pick (eqb i 18) (RecoverUpTo 1000)
-    (pick (eqb i 19) (Begin 1)
-    (pick (eqb i 22) (Write 1 0 41)
-    (pick (eqb i 30) (Write 1 1 42)
-    (pick (eqb i 36) (Write 1 2 43)
-    (pick (eqb i 42) (Commit 1)
-    (stepAt i))))))))))
+unfoldable pub askedAt : ℕ → Call
+askedAt i = pick (eqb i 17) (sys crash) (pick (eqb i 18) (sys (recoverUpTo 1000)) (on (pick (ltb i 17) 0 1) (askAt i)))
 
 -- ---- what is written of a call
 
@@ -84,18 +84,28 @@ unfoldable pub tells : Bool → ℕ → ℕ → List ℕ → List ℕ
 tells crashed n v pers =
     pick crashed (words pers ++ line crashText n v) (pick (ltb n 4) (answered n v) (answered n v ++ words pers))
 
+abbrev pub isCrash : Sys → Bool
+isCrash (flush w) = false
+isCrash crash = true
+isCrash recover = false
+isCrash (recoverUpTo b) = false
+
+abbrev pub powerFails : Call → Bool
+powerFails (on i a) = false
+powerFails (sys k) = isCrash k
+
 abbrev pub told : Call → Reply → List ℕ → List ℕ
-told c a pers = tells (reachesAll c) (a .number) (a .value) pers
+told c a pers = tells (powerFails c) (a .number) (a .value) pers
 
 -- ---- after the first i calls: the store, and the text in a buffer
 
 unfoldable pub storeAt : ℕ → Store
 storeAt zero = fresh 4
-storeAt (suc i) = call (storeAt i) (callOf (actAt i)) .store
+storeAt (suc i) = call (storeAt i) (askedAt i) .store
 
 abbrev pub outcomeAt : ℕ → Outcome
-outcomeAt i = call (storeAt i) (callOf (actAt i))
+outcomeAt i = call (storeAt i) (askedAt i)
 
 unfoldable pub textAt : List ℕ → ℕ → Buffer
 textAt out zero = buffer out 0
-textAt out (suc i) = puts (textAt out i) (told (callOf (actAt i)) (outcomeAt i .reply) (outcomeAt i .store .mem .pers))
+textAt out (suc i) = puts (textAt out i) (told (askedAt i) (outcomeAt i .reply) (outcomeAt i .store .mem .pers))

@@ -3,8 +3,10 @@
 mod tell;
 
 use crate::tell::tell;
-use dtml::Act;
+use dtml::Ask;
+use dtml::Call;
 use dtml::Recovery;
+use dtml::Sys;
 use libc::STDOUT_FILENO;
 use machine::Held;
 use machine::call;
@@ -16,7 +18,7 @@ ghost use lib.Dec.{ltb};
 ghost use Rattle.bits.specs.Marks.{pick};
 ghost use Rattle.machine.specs.Working.{freshHeld};
 ghost use Rattle.text.specs.Buffer.{buffer};
-ghost use Rattle.join.specs.Join.{actAt, textAt};
+ghost use Rattle.join.specs.Join.{askAt, askedAt, textAt};
 
 // Transaction 0 is cut by the power failure, which is call 17; then comes transaction 1.
 fn owner(i: usize) -> u64
@@ -26,42 +28,36 @@ fn owner(i: usize) -> u64
     if before { 0 } else { 1 }
 }
 
-// The calls, in order: an operation is asked for, and then its lines are done one by one.
-fn act_at(i: usize) -> Act
-    ensures { λ r. ⌜ r ≡ actAt i ⌝ }
+// What is asked of the records: an operation, and then its lines are done one by one.
+fn ask_at(i: usize) -> Ask
+    ensures { λ r. ⌜ r ≡ askAt i ⌝ }
 {
     match i {
-        0 => Act::Begin { id: 0 },
-        3 => Act::Write {
-            id: 0,
-            word: 0,
-            value: 41,
+        0 => Ask::Begin,
+        3 => Ask::Write { word: 0, value: 41 },
+        11 => Ask::Write { word: 1, value: 42 },
+        19 => Ask::Begin,
+        22 => Ask::Write { word: 0, value: 41 },
+        30 => Ask::Write { word: 1, value: 42 },
+        36 => Ask::Write { word: 2, value: 43 },
+        42 => Ask::Commit,
+        _ => Ask::Step,
+    }
+}
+
+// The calls, in order.
+fn asked_at(i: usize) -> Call
+    ensures { λ r. ⌜ r ≡ askedAt i ⌝ }
+{
+    match i {
+        17 => Call::Of { sys: Sys::Crash },
+        18 => Call::Of {
+            sys: Sys::RecoverUpTo { allowance: 1000 },
         },
-        11 => Act::Write {
-            id: 0,
-            word: 1,
-            value: 42,
+        _ => Call::On {
+            id: owner(i),
+            ask: ask_at(i),
         },
-        17 => Act::Crash,
-        18 => Act::RecoverUpTo { allowance: 1000 },
-        19 => Act::Begin { id: 1 },
-        22 => Act::Write {
-            id: 1,
-            word: 0,
-            value: 41,
-        },
-        30 => Act::Write {
-            id: 1,
-            word: 1,
-            value: 42,
-        },
-        36 => Act::Write {
-            id: 1,
-            word: 2,
-            value: 43,
-        },
-        42 => Act::Commit { id: 1 },
-        _ => Act::Step { id: owner(i) },
     }
 }
 
@@ -90,9 +86,9 @@ fn run(out: &mut [u8]) -> usize
     let mut at: usize = 0;
     let mut i: usize = 0;
     while i < 46 {
-        let act = act_at(i);
-        let done = call(&mut vol, &mut pers, &mut old, &mut txs, held, act);
-        at = tell(out, at, act, done.answer, &pers);
+        let asked = asked_at(i);
+        let done = call(&mut vol, &mut pers, &mut old, &mut txs, held, asked);
+        at = tell(out, at, asked, done.answer, &pers);
         held = done.held;
         i += 1;
     }

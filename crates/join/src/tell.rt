@@ -1,7 +1,7 @@
 // What is written of a call, put into a lent buffer.
-use doing::reaches_all;
-use dtml::Act;
 use dtml::Answer;
+use dtml::Call;
+use dtml::Sys;
 use parts::answer::number;
 use parts::answer::value;
 use text::put_byte;
@@ -9,11 +9,10 @@ use text::put_decimal;
 ghost use mathlib.Core.Path.{_≡_};
 ghost use mathlib.Core.List.{_++_};
 ghost use lib.ListN.{getD};
-ghost use Rattle.dtml.specs.Acts.{callOf};
 ghost use Rattle.dtml.specs.Table.{reply};
 ghost use Rattle.text.specs.Buffer.{buffer, puts};
 ghost use Rattle.text.specs.Text.{decimal};
-ghost use Rattle.join.specs.Join.{line, answered, words, told};
+ghost use Rattle.join.specs.Join.{line, answered, words, isCrash, powerFails, told};
 
 fn put_bytes(out: &mut [u8], at: usize, text: &[u8]) -> usize
     ensures { λ r. ⌜ buffer (now (out .exit)) r ≡ puts (buffer (now (out .entry)) at) (now (text .entry)) ⌝ }
@@ -90,12 +89,32 @@ fn put_words(out: &mut [u8], at: usize, pers: &[u32]) -> usize
     put_byte(out, at, b'\n')
 }
 
-pub(crate) fn tell(out: &mut [u8], at: usize, act: Act, answer: Answer, pers: &[u32]) -> usize
-    ensures { λ r. ⌜ buffer (now (out .exit)) r ≡ puts (buffer (now (out .entry)) at) (told (callOf act) (reply answer) (now (pers .entry))) ⌝ }
+fn is_crash(sys: Sys) -> bool
+    ensures { λ r. ⌜ r ≡ isCrash sys ⌝ }
+{
+    match sys {
+        Sys::Flush { word: _ } => false,
+        Sys::Crash => true,
+        Sys::Recover => false,
+        Sys::RecoverUpTo { allowance: _ } => false,
+    }
+}
+
+fn power_fails(asked: Call) -> bool
+    ensures { λ r. ⌜ r ≡ powerFails asked ⌝ }
+{
+    match asked {
+        Call::On { id: _, ask: _ } => false,
+        Call::Of { sys } => is_crash(sys),
+    }
+}
+
+pub(crate) fn tell(out: &mut [u8], at: usize, asked: Call, answer: Answer, pers: &[u32]) -> usize
+    ensures { λ r. ⌜ buffer (now (out .exit)) r ≡ puts (buffer (now (out .entry)) at) (told asked (reply answer) (now (pers .entry))) ⌝ }
 {
     let n = number(answer);
     let v = value(answer);
-    let crashed = reaches_all(act);
+    let crashed = power_fails(asked);
     if crashed {
         let at = put_words(out, at, pers);
         return put_line(out, at, b"the power fails: ", n, v);

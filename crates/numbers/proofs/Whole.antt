@@ -19,8 +19,8 @@ use Rattle.dtml.specs.declared.Call.the-variants.{On as on, Of as sys}
 use Rattle.dtml.specs.First.{anyOf}
 use Rattle.dtml.specs.Checks.{unfit, unfitRows, unfitMemory, unfitTxs}
 use Rattle.dtml.specs.Calls.{refused, call, makeFresh}
+use Rattle.dtml.specs.Handed.{slotOf, reach}
 use Rattle.dtml.proofs.Lift.{unfit-call, unfit-system}
-use Rattle.doing.specs.Carrying.{slotOf}
 use Rattle.machine.specs.declared.Held.{Held}
 use Rattle.machine.specs.declared.work.Worked.{Worked}
 use Rattle.machine.specs.declared.work.Made.{Made}
@@ -57,7 +57,7 @@ unfolding spellTxs
 spelled-length [] = refl
 spelled-length (t ∷ ts) = let e = spelled-length ts in omega arith
 
-crash-spelled : (cut : Bool) (ts : List Tx) → pick cut (crashNumbers (spellTxs ts)) (spellTxs ts) ≡ spellTxs (pick cut (crashTxs ts) ts)
+crash-spelled : (crashed : Bool) (ts : List Tx) → pick crashed (crashNumbers (spellTxs ts)) (spellTxs ts) ≡ spellTxs (reach crashed ts)
 unfolding crashNumbers
 crash-spelled true ts = ap (λ us. spellTxs (crashTxs us)) (txs-again ts)
 crash-spelled false ts = refl
@@ -164,27 +164,27 @@ module _ (v p o h xs : List ℕ) (c : Call) where
   spelled-both e f = rw e (ap (same (spellTxs (readTxs xs))) (sym f) ∙ same-self (spellTxs (readTxs xs)))
 
   -- what is put back is spelled by what the store's records have become
-  put-back : (i : ℕ) (t : Tx) (cut : Bool) {xs₁ xs₂ : List ℕ} → i < 64 → Fit (length v) xs → xs₁ ≡ putTx xs (4 * i) t → xs₂ ≡ pick cut (crashNumbers xs₁) xs₁
-      → xs₂ ≡ spellTxs (pick cut (crashTxs (set (readTxs xs) i t)) (set (readTxs xs) i t))
-  put-back i t cut below fit put crashed =
+  put-back : (i : ℕ) (t : Tx) (crashed : Bool) {xs₁ xs₂ : List ℕ} → i < 64 → Fit (length v) xs → xs₁ ≡ putTx xs (4 * i) t → xs₂ ≡ pick crashed (crashNumbers xs₁) xs₁
+      → xs₂ ≡ spellTxs (reach crashed (set (readTxs xs) i t))
+  put-back i t crashed below fit put reached =
       let long : length (readTxs xs) ≡ 64 = read-length 64 xs (fit .long) in
-      crashed
-      ∙ ap (λ ys. pick cut (crashNumbers ys) ys) (put ∙ ap (λ ys. putTx ys (4 * i) t) (sym (fit .spelled)) ∙ tx-put i (readTxs xs) t (omega arith))
-      ∙ crash-spelled cut (set (readTxs xs) i t)
+      reached
+      ∙ ap (λ ys. pick crashed (crashNumbers ys) ys) (put ∙ ap (λ ys. putTx ys (4 * i) t) (sym (fit .spelled)) ∙ tx-put i (readTxs xs) t (omega arith))
+      ∙ crash-spelled crashed (set (readTxs xs) i t)
 
   pub called : {i : ℕ} {hd : Held} {t : Tx} {misspelt bad : Bool} {v′ p′ o′ h′ xs₁ xs₂ : List ℕ} (w : Worked)
       → misspelt ≡ not (spellsHeld h) → misspelt ≡ false → bad ≡ unfitRecords (length v) xs → bad ≡ false → i ≡ slotOf c → i < 64 → t ≡ txAt xs (4 * i) → hd ≡ heldIn h
       → workedOf w v′ p′ o′ ≡ worked (memory v p o (hd .marks) (hd .glb)) (hd .recovery) false t c
-      → h′ ≡ spelledHeld (w .after .held) → xs₁ ≡ putTx xs (4 * i) (w .tx) → xs₂ ≡ pick (w .cut) (crashNumbers xs₁) xs₁
+      → h′ ≡ spelledHeld (w .after .held) → xs₁ ≡ putTx xs (4 * i) (w .tx) → xs₂ ≡ pick (w .crashed) (crashNumbers xs₁) xs₁
       → told (reply (w .after .answer)) (rows v′ p′ o′ h′ xs₂) ≡ callNumbers here c
   unfolding callNumbers
-  called {i} {hd} {t} {v′ = v′} {p′} {o′} {h′} w compared e tested u at below read got done held put crashed =
+  called {i} {hd} {t} {v′ = v′} {p′} {o′} {h′} w compared e tested u at below read got done held put reached =
       let fit = fit-records (length v) xs (sym tested ∙ u) in
       let long : length (readTxs xs) ≡ 64 = read-length 64 xs (fit .long) in
       let found : false ≡ anyOf (not (eqb (length (readTxs xs)) 64) ∷ unfitTxs (length v) (readTxs xs) ∷ []) =
       rw (eq-eqb (length (readTxs xs)) 64 long, fit .records) in
-      ap (λ ys. told (reply (w .after .answer)) (rows v′ p′ o′ h′ ys)) (put-back i (w .tx) (w .cut) below fit put crashed)
-      ∙ ap (λ hs. told (reply (w .after .answer)) (rows v′ p′ o′ hs (spellTxs (pick (w .cut) (crashTxs (set (readTxs xs) i (w .tx))) (set (readTxs xs) i (w .tx)))))) held
+      ap (λ ys. told (reply (w .after .answer)) (rows v′ p′ o′ h′ ys)) (put-back i (w .tx) (w .crashed) below fit put reached)
+      ∙ ap (λ hs. told (reply (w .after .answer)) (rows v′ p′ o′ hs (spellTxs (reach (w .crashed) (set (readTxs xs) i (w .tx)))))) held
       ∙ ap spellOutcome (called-whole v p o (heldIn h) (readTxs xs) c w at found (read ∙ tx-read i xs (omega arith))
       (done ∙ ap (λ (y : Held). worked (memory v p o (y .marks) (y .glb)) (y .recovery) false t c) got) refl refl)
       ∙ rw (spelled-both (not-false (spellsHeld h) (sym compared ∙ e)) (fit .spelled))

@@ -10,17 +10,16 @@ use crate::records::crash_if;
 use crate::records::put_tx;
 use crate::records::read_tx;
 use crate::records::unfit_records;
-use doing::slot;
-use dtml::Act;
 use dtml::Answer;
+use dtml::Call;
 use machine::work::renew;
+use machine::work::slot;
 use machine::work::work;
 use machine::work::zero;
 use parts::answer::number;
 use parts::answer::value as value_of;
 ghost use mathlib.Core.Path.{_≡_};
 ghost use mathlib.Core.List.{[]};
-ghost use Rattle.dtml.specs.Acts.{callOf};
 ghost use Rattle.dtml.specs.Table.{reply};
 ghost use Rattle.numbers.specs.Numbers.{rows, callNumbers, freshNumbers, given, valued, gives};
 
@@ -46,11 +45,11 @@ pub fn call(
     old: &mut [u32],
     held: &mut [u64],
     records: &mut [u32],
-    act: Act,
+    asked: Call,
     value: &mut [u64],
 ) -> u64
     ensures { λ r. ⌜ given r (now (value .exit)) (rows (now (vol .exit)) (now (pers .exit)) (now (old .exit)) (now (held .exit)) (now (records .exit)))
-        ≡ gives (now (value .entry)) (callNumbers (rows (now (vol .entry)) (now (pers .entry)) (now (old .entry)) (now (held .entry)) (now (records .entry))) (callOf act)) ⌝ }
+        ≡ gives (now (value .entry)) (callNumbers (rows (now (vol .entry)) (now (pers .entry)) (now (old .entry)) (now (held .entry)) (now (records .entry))) asked) ⌝ }
 {
     if misspelt(held) {
         return answered(value, Answer::Unfit);
@@ -58,15 +57,15 @@ pub fn call(
     if unfit_records(vol.len(), records) {
         return answered(value, Answer::Unfit);
     }
-    let at = 4 * slot(act);
+    let at = 4 * slot(asked);
     let tx = read_tx(records, at);
-    let done = work(vol, pers, old, read_held(held), false, tx, act);
+    let done = work(vol, pers, old, read_held(held), false, tx, asked);
     let after = done.after;
     let next = after.held;
     let answer = after.answer;
     put_held(held, next);
     put_tx(records, at, done.tx);
-    crash_if(records, done.cut);
+    crash_if(records, done.crashed);
     answered(value, answer)
 }
 
@@ -77,13 +76,13 @@ pub fn asked(
     old: &mut [u32],
     held: &mut [u64],
     records: &mut [u32],
-    act: Act,
+    asked: Call,
 ) -> u64
     ensures { λ r. ⌜ given r [] (rows (now (vol .exit)) (now (pers .exit)) (now (old .exit)) (now (held .exit)) (now (records .exit)))
-        ≡ gives [] (callNumbers (rows (now (vol .entry)) (now (pers .entry)) (now (old .entry)) (now (held .entry)) (now (records .entry))) (callOf act)) ⌝ }
+        ≡ gives [] (callNumbers (rows (now (vol .entry)) (now (pers .entry)) (now (old .entry)) (now (held .entry)) (now (records .entry))) asked) ⌝ }
 {
     let mut value = [0u64; 1];
-    call(vol, pers, old, held, records, act, &mut value)
+    call(vol, pers, old, held, records, asked, &mut value)
 }
 
 // Makes the store fresh, whatever the numbers were. The answer's value is always 0.

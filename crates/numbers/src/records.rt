@@ -73,11 +73,11 @@ pub(crate) fn unfit_records(n: usize, records: &[u32]) -> bool
 }
 
 // If there was a crash, what it does to every record.
-pub(crate) fn crash_if(records: &mut [u32], cut: bool)
+pub(crate) fn crash_if(records: &mut [u32], crashed: bool)
     requires { ⌜ length (now records) ≡ 256 ⌝ }
-    ensures { λ _. ⌜ now (records .exit) ≡ pick cut (crashNumbers (now (records .entry))) (now (records .entry)) ⌝ }
+    ensures { λ _. ⌜ now (records .exit) ≡ pick crashed (crashNumbers (now (records .entry))) (now (records .entry)) ⌝ }
 {
-    if !cut {
+    if !crashed {
         return;
     }
     let mut at: usize = 0;

@@ -1,42 +1,28 @@
--- What a promise says of an outcome can be read back: the answer can be told from its number and value, the act from its call, and the rest is handed on as it is.
+-- What a promise says of an outcome can be read back: the answer can be told from its number and value, and the rest is handed on as it is.
 use Prim.Native.Nat.{ℕ}
 use mathlib.Core.Path.{_≡_, refl, sym, ap, _∙_}
 use mathlib.Core.List.{List}
 use lib.Dec.{eqb}
 use Rattle.bits.specs.Marks.{pick}
-use Rattle.dtml.specs.declared.Act.{Act}
-use Rattle.dtml.specs.declared.Act.the-variants as act
 use Rattle.dtml.specs.declared.Answer.{Answer}
 use Rattle.dtml.specs.declared.Answer.the-variants.{Taken, Begun, Read, Written, Committed, Aborted, Recovered, Unfit, NoWord, NoRecord, NotIdle, NotFresh, NotReady, NoLine, Idle}
 use Rattle.dtml.specs.declared.Recovery.{Recovery}
 use Rattle.dtml.specs.declared.Tx.{Tx}
 use Rattle.dtml.specs.Table.{Reply, reply}
 use Rattle.dtml.specs.Store.{Memory, Store}
-use Rattle.dtml.specs.declared.Ask.the-variants.{Begin as begin, Read as read, Write as write, Commit as commit, Step as step}
-use Rattle.dtml.specs.declared.Sys.the-variants.{Flush as flush, Crash as crash, Recover as recover, RecoverUpTo as recoverUpTo}
-use Rattle.dtml.specs.declared.Call.{Call}
-use Rattle.dtml.specs.declared.Call.the-variants.{On as on, Of as sys}
-use Rattle.dtml.specs.Asked.{Did, Healed, Outcome}
-use Rattle.dtml.specs.Acts.{callOf}
+use Rattle.dtml.specs.Asked.{Outcome}
+use Rattle.dtml.specs.Handed.{Turned, no-turn, a-turn, Happened, nothing, a-flush, a-crash, some-lines}
 use Rattle.turn.specs.declared.Turn.{Turn}
-use Rattle.turn.specs.Turning.{didOf}
-use Rattle.system.specs.declared.Heal.{Heal}
-use Rattle.system.specs.Healing.{healedOf}
-use Rattle.doing.specs.declared.Carried.{Carried}
-use Rattle.doing.specs.Carrying.{Left, leftOf}
+use Rattle.turn.specs.declared.Turn.the-variants as Turn
+use Rattle.turn.specs.Turning.{turnedOf}
+use Rattle.system.specs.declared.Event.{Event}
+use Rattle.system.specs.declared.Event.the-variants as Event
+use Rattle.system.specs.Healing.{happenedOf}
 use Rattle.machine.specs.declared.Held.{Held}
 use Rattle.machine.specs.declared.After.{After}
 use Rattle.machine.specs.declared.work.Worked.{Worked}
 use Rattle.machine.specs.Given.{storeOf, outcomeOf}
 use Rattle.machine.specs.Working.{Work, workedOf}
-use Rattle.reader.specs.declared.Item.{Item}
-use Rattle.reader.specs.declared.Item.the-variants.{End, Stops, Does}
-use Rattle.reader.specs.Trace.{Found, end, stops, does}
-use Rattle.reader.specs.Said.{foundOf}
-
--- a reading with an inverse: what reads alike is equal
-alike : {X Y : Type 0} (f : X → Y) (back : Y → X) → ((x : X) → back (f x) ≡ x) → {d : Y} (x y : X) → f x ≡ d → f y ≡ d → x ≡ y
-alike f back same x y p q = sym (same x) ∙ ap back (p ∙ sym q) ∙ same y
 
 -- ---- the answer, from its number and value
 
@@ -74,65 +60,33 @@ answer-back NotReady = refl
 answer-back NoLine = refl
 answer-back Idle = refl
 
--- ---- the act, from its call
-
-abbrev actOf : Call → Act
-actOf (on i begin) = act.Begin i
-actOf (on i (read w)) = act.Read i w
-actOf (on i (write w v)) = act.Write i w v
-actOf (on i commit) = act.Commit i
-actOf (on i step) = act.Step i
-actOf (sys (flush w)) = act.Flush w
-actOf (sys crash) = act.Crash
-actOf (sys recover) = act.Recover
-actOf (sys (recoverUpTo b)) = act.RecoverUpTo b
-
-act-back : (a : Act) → actOf (callOf a) ≡ a
-act-back (act.Begin i) = refl
-act-back (act.Read i w) = refl
-act-back (act.Write i w v) = refl
-act-back (act.Commit i) = refl
-act-back (act.Step i) = refl
-act-back (act.Flush w) = refl
-act-back act.Crash = refl
-act-back act.Recover = refl
-act-back (act.RecoverUpTo b) = refl
-
-abbrev itemOf : Found → Item
-itemOf end = End
-itemOf (stops k) = Stops k
-itemOf (does c k) = Does (actOf c) k
-
-item-back : (x : Item) → itemOf (foundOf x) ≡ x
-item-back End = refl
-item-back (Stops k) = refl
-item-back (Does a k) = ap (λ (b : Act). Does b k) (act-back a)
-
-pub found-same : {d : Found} (x y : Item) → foundOf x ≡ d → foundOf y ≡ d → x ≡ y
-found-same x y p q = alike foundOf itemOf item-back x y p q
-
 -- ---- what a call gives back, with what it leaves
 
-pub turn-same : {m m′ : Memory} {d : Did} (x y : Turn) → didOf x m ≡ d → didOf y m′ ≡ d → _≡_ {A = Turn × Memory} (x, m) (y, m′)
-turn-same {m} {m′} x y p q =
-    alike (λ (z : Turn × Memory). didOf (z .0) (z .1))
-    (λ d. (record { answer = answerOf (d .reply); tx = d .tx }, d .mem))
-    (λ z. ap (λ a. (record { answer = a; tx = z .0 .tx }, z .1)) (answer-back (z .0 .answer)))
-    (x, m) (y, m′) p q
+abbrev turnIn : Turned → Turn × Memory
+turnIn (no-turn a m) = (Turn.Refused (answerOf a), m)
+turnIn (a-turn d) = (Turn.Went (answerOf (d .reply)) (d .tx), d .mem)
 
-pub heal-same : {m m′ : Memory} {d : Healed} (x y : Heal) → healedOf x m ≡ d → healedOf y m′ ≡ d → _≡_ {A = Heal × Memory} (x, m) (y, m′)
-heal-same {m} {m′} x y p q =
-    alike (λ (z : Heal × Memory). healedOf (z .0) (z .1))
-    (λ d. (record { answer = answerOf (d .reply); recovery = d .rec }, d .mem))
-    (λ z. ap (λ a. (record { answer = a; recovery = z .0 .recovery }, z .1)) (answer-back (z .0 .answer)))
-    (x, m) (y, m′) p q
+turn-back : (x : Turn) (m : Memory) → turnIn (turnedOf x m) ≡ (x, m)
+turn-back (Turn.Refused a) m = ap (λ b. (Turn.Refused b, m)) (answer-back a)
+turn-back (Turn.Went a t) m = ap (λ b. (Turn.Went b t, m)) (answer-back a)
 
-pub carried-same : {m m′ : Memory} {d : Left} (x y : Carried) → leftOf x m ≡ d → leftOf y m′ ≡ d → _≡_ {A = Carried × Memory} (x, m) (y, m′)
-carried-same {m} {m′} x y p q =
-    alike (λ (z : Carried × Memory). leftOf (z .0) (z .1))
-    (λ d. (record { answer = answerOf (d .reply); recovery = d .rec; tx = d .tx }, d .mem))
-    (λ z. ap (λ a. (record { answer = a; recovery = z .0 .recovery; tx = z .0 .tx }, z .1)) (answer-back (z .0 .answer)))
-    (x, m) (y, m′) p q
+pub turn-same : {m m′ : Memory} {d : Turned} (x y : Turn) → turnedOf x m ≡ d → turnedOf y m′ ≡ d → _≡_ {A = Turn × Memory} (x, m) (y, m′)
+turn-same {m} {m′} x y p q = sym (turn-back x m) ∙ ap turnIn (p ∙ sym q) ∙ turn-back y m′
+
+abbrev eventIn : Happened → Event × Memory
+eventIn (nothing a m) = (Event.Refused (answerOf a), m)
+eventIn (a-flush m) = (Event.Flushed, m)
+eventIn (a-crash m) = (Event.Crashed, m)
+eventIn (some-lines k h) = (Event.Healed (answerOf (h .reply)) k (h .rec), h .mem)
+
+event-back : (x : Event) (m : Memory) → eventIn (happenedOf x m) ≡ (x, m)
+event-back (Event.Refused a) m = ap (λ b. (Event.Refused b, m)) (answer-back a)
+event-back Event.Flushed m = refl
+event-back Event.Crashed m = refl
+event-back (Event.Healed a k r) m = ap (λ b. (Event.Healed b k r, m)) (answer-back a)
+
+pub event-same : {m m′ : Memory} {d : Happened} (x y : Event) → happenedOf x m ≡ d → happenedOf y m′ ≡ d → _≡_ {A = Event × Memory} (x, m) (y, m′)
+event-same {m} {m′} x y p q = sym (event-back x m) ∙ ap eventIn (p ∙ sym q) ∙ event-back y m′
 
 abbrev heldIn : Memory → Recovery → Held
 heldIn m r = record { marks = m .marks; glb = m .glb; recovery = r }
@@ -152,8 +106,8 @@ pub worked-same : {v v′ p p′ o o′ : List ℕ} {d : Work} (x y : Worked) �
 worked-same {v} {v′} {p} {p′} {o} {o′} x y e f = sym (back v p o x) ∙ ap of (e ∙ sym f) ∙ back v′ p′ o′ y
   where
     of : Work → Worked × Memory
-    of d = (record { after = record { answer = answerOf (d .left .reply); held = heldIn (d .left .mem) (d .left .rec) }; tx = d .left .tx; cut = d .cut }, d .left .mem)
+    of d = (record { after = record { answer = answerOf (d .left .reply); held = heldIn (d .left .mem) (d .left .rec) }; tx = d .left .tx; crashed = d .crashed }, d .left .mem)
 
     back : (v p o : List ℕ) (x : Worked) → of (workedOf x v p o) ≡ (x, workedOf x v p o .left .mem)
     back v p o x =
-        ap (λ a. (record { after = record { answer = a; held = x .after .held }; tx = x .tx; cut = x .cut }, workedOf x v p o .left .mem)) (answer-back (x .after .answer))
+        ap (λ a. (record { after = record { answer = a; held = x .after .held }; tx = x .tx; crashed = x .crashed }, workedOf x v p o .left .mem)) (answer-back (x .after .answer))

@@ -20,14 +20,12 @@ use Rattle.turn.proofs as turn
 use Rattle.asks.proofs as asks
 use Rattle.lines.proofs as lines
 use Rattle.system.proofs as system
-use Rattle.doing.proofs as doing
 use Rattle.records.proofs as records
 use Rattle.machine.proofs as machine
 use Rattle.spelling.proofs as spelling
 use Rattle.numbers.proofs as numbers
 use Rattle.calls.proofs as calls
 use Rattle.events.proofs as events
-use Rattle.tally.proofs as tally
 use Rattle.text.proofs as text
 use Rattle.trace.proofs as trace
 use Rattle.host.proofs as host
@@ -76,6 +74,7 @@ pub record UniqueOutcomes {M : Type 1} (𝓤 : URA M) : Type 2 where
   pub parts-phase-past : Settled parts.fit.phase_past.ended (parts.fit.phase_past.clauses 𝓤)
   pub parts-unfit-recovery : Settled parts.fit.unfit_recovery.ended (parts.fit.unfit_recovery.clauses 𝓤)
   pub parts-unfit-tx : Settled parts.fit.unfit_tx.ended (parts.fit.unfit_tx.clauses 𝓤)
+  pub parts-unfit-idle : Settled parts.fit.unfit_idle.ended (parts.fit.unfit_idle.clauses 𝓤)
   pub parts-unfit-beside : Settled parts.fit.unfit_beside.ended (parts.fit.unfit_beside.clauses 𝓤)
   pub parts-unfit-one : Settled parts.fit.unfit_one.ended (parts.fit.unfit_one.clauses 𝓤)
   pub parts-flush-word : Settled parts.words.flush_word.ended (parts.words.flush_word.clauses 𝓤)
@@ -87,21 +86,17 @@ pub record UniqueOutcomes {M : Type 1} (𝓤 : URA M) : Type 2 where
   pub asks-read : Settled asks.read.ended (asks.read.clauses 𝓤)
   pub asks-write : Settled asks.write.ended (asks.write.clauses 𝓤)
   pub asks-commit : Settled asks.commit.ended (asks.commit.clauses 𝓤)
-  pub lines-step : Settled lines.step.ended (lines.step.clauses 𝓤)
-  pub system-flush : Settled system.flush.ended (system.flush.clauses 𝓤)
-  pub system-crash : Settled system.crash.ended (system.crash.clauses 𝓤)
+  pub lines-call-one : Settled lines.call_one.ended (lines.call_one.clauses 𝓤)
+  pub system-call-system : Settled system.call_system.ended (system.call_system.clauses 𝓤)
   pub system-crash-tx : Settled system.crash_tx.ended (system.crash_tx.clauses 𝓤)
-  pub system-recover : Settled system.recover.ended (system.recover.clauses 𝓤)
-  pub system-recover-up-to : Settled system.recover_up_to.ended (system.recover_up_to.clauses 𝓤)
-  pub doing-slot : Settled doing.slot.ended (doing.slot.clauses 𝓤)
-  pub doing-reaches-all : Settled doing.reaches_all.ended (doing.reaches_all.clauses 𝓤)
-  pub doing-carry-out : Settled doing.carry_out.ended (doing.carry_out.clauses 𝓤)
   -- the calls, on a whole store
   pub records-get : Settled records.get.ended (records.get.clauses 𝓤)
   pub records-put : Settled records.put.ended (records.put.clauses 𝓤)
   pub records-unfit : Settled records.unfit.ended (records.unfit.clauses 𝓤)
   pub records-crash-if : Settled records.crash_if.ended (records.crash_if.clauses 𝓤)
   pub records-store-if : Settled records.store_if.ended (records.store_if.clauses 𝓤)
+  pub machine-place-of : Settled machine.work.place_of.ended (machine.work.place_of.clauses 𝓤)
+  pub machine-slot : Settled machine.work.slot.ended (machine.work.slot.clauses 𝓤)
   pub machine-work : Settled machine.work.work.ended (machine.work.work.clauses 𝓤)
   pub machine-zero : Settled machine.work.zero.ended (machine.work.zero.clauses 𝓤)
   pub machine-renew : Settled machine.work.renew.ended (machine.work.renew.clauses 𝓤)
@@ -129,10 +124,6 @@ pub record UniqueOutcomes {M : Type 1} (𝓤 : URA M) : Type 2 where
   pub events-register-recover : Settled events.register_recover.ended (events.register_recover.clauses 𝓤)
   pub events-register-recover-up-to : Settled events.register_recover_up_to.ended (events.register_recover_up_to.clauses 𝓤)
   -- the trace
-  pub tally-crashes-in : Settled tally.crashes_in.ended (tally.crashes_in.clauses 𝓤)
-  pub tally-lines-in : Settled tally.lines_in.ended (tally.lines_in.clauses 𝓤)
-  pub tally-cut-in : Settled tally.cut_in.ended (tally.cut_in.clauses 𝓤)
-  pub tally-committed-in : Settled tally.committed_in.ended (tally.committed_in.clauses 𝓤)
   pub text-put-byte : Settled text.put_byte.ended (text.put_byte.clauses 𝓤)
   pub text-put-decimal : Settled text.put_decimal.ended (text.put_decimal.clauses 𝓤)
   pub text-put-answer : Settled text.put_answer.ended (text.put_answer.clauses 𝓤)

@@ -40,16 +40,15 @@ use denote.Triple.Spec.{Meets, tripleOf}
 use denote.Triple.Statement.{Triple}
 use denote.Triple.Table.{entered, cited}
 use denote.Triple.Walked.{says, Stays, stay-slice, walkOf, ends-at, goes-slice}
-use Rattle.dtml.specs.declared.Act.{Act}
+use Rattle.dtml.specs.declared.Call.{Call}
 use Rattle.dtml.specs.declared.Phase.the-variants.{Fresh}
 use Rattle.dtml.specs.declared.Tx.{Tx}
 use Rattle.dtml.specs.Store.{tx}
-use Rattle.dtml.specs.Acts.{callOf}
 use Rattle.dtml.specs.Calls.{call as called-as, makeFresh}
-use Rattle.dtml.proofs.Act as Act′
-use Rattle.dtml.proofs.Act.Laws as ActL
 use Rattle.dtml.proofs.Answer as Answer′
 use Rattle.dtml.proofs.Answer.Laws as AnswerL
+use Rattle.dtml.proofs.Call as Call′
+use Rattle.dtml.proofs.Call.Laws as CallL
 use Rattle.dtml.proofs.Tx as T′
 use Rattle.dtml.proofs.Tx.Laws as TL
 use Rattle.records.proofs.Walk.{Cell, bare, has, lies, begins, leaves, sinks, becomes, held, sets, forgets, counts, meets}
@@ -74,15 +73,15 @@ use Rattle.machine.proofs.call.Symbol as call-def
 use Rattle.machine.proofs.call.Symbol.{name as #call}
 use Rattle.machine.proofs.call.Met as call-thm
 use Rattle.text.specs.Buffer.{Buffer}
-use Rattle.join.specs.Join.{actAt, textAt}
+use Rattle.join.specs.Join.{askedAt, textAt}
 use Rattle.join.proofs.Lending.{Rows, these-rows, Calling, lent, Telling, telling}
 use Rattle.join.proofs.Going.{rowsAt, heldAt, made, started, called, wrote, Stands, long-on, stands-on, counts-so}
 use Rattle.join.proofs.nothing_held.Symbol as nothing-held-def
 use Rattle.join.proofs.nothing_held.Symbol.{name as #nothing-held}
 use Rattle.join.proofs.nothing_held.Met as nothing-held-thm
-use Rattle.join.proofs.act_at.Symbol as act-at-def
-use Rattle.join.proofs.act_at.Symbol.{name as #act-at}
-use Rattle.join.proofs.act_at.Met as act-at-thm
+use Rattle.join.proofs.asked_at.Symbol as asked-at-def
+use Rattle.join.proofs.asked_at.Symbol.{name as #asked-at}
+use Rattle.join.proofs.asked_at.Met as asked-at-thm
 use Rattle.join.proofs.tell.tell.Symbol as tell-def
 use Rattle.join.proofs.tell.tell.Symbol.{name as #tell}
 use Rattle.join.proofs.tell.tell.Met as tell-thm
@@ -104,8 +103,8 @@ Blank = record {
 abbrev Nothing : Callee (Unit {0}) (Unit {0})
 Nothing = record { Rs = []; Q = H′.the-row; vals = LL.vals H′.the-type HL.the-laws; tells = LL.tells H′.the-type HL.the-laws; says = λ _ _ r _. r ≡ freshHeld }
 
-abbrev ActAt : Callee (Unit {0}) (Unit {0})
-ActAt = record { Rs = usize ∷ []; Q = Act′.the-row; vals = EL.vals Act′.the-type ActL.the-laws; tells = EL.tells Act′.the-type ActL.the-laws; says = λ _ a r _. r ≡ actAt (a .0) }
+abbrev AskedAt : Callee (Unit {0}) (Unit {0})
+AskedAt = record { Rs = usize ∷ []; Q = Call′.the-row; vals = EL.vals Call′.the-type CallL.the-laws; tells = EL.tells Call′.the-type CallL.the-laws; says = λ _ a r _. r ≡ askedAt (a .0) }
 
 abbrev Fresh-store : Callee Rows Rows
 Fresh-store = record {
@@ -116,13 +115,13 @@ Fresh-store = record {
   says = λ w a r z. outcomeOf (z .vol) (z .pers) (z .old) (z .txs) r ≡ makeFresh (storeOf (w .vol) (w .pers) (w .old) (a .0) (w .txs));
 }
 
-abbrev Call : Callee Rows Rows
-Call = record {
-  Rs = H′.the-row ∷ Act′.the-row ∷ [];
+abbrev Called : Callee Rows Rows
+Called = record {
+  Rs = H′.the-row ∷ Call′.the-row ∷ [];
   Q = A′.the-row;
   vals = LL.vals A′.the-type AL.the-laws;
   tells = LL.tells A′.the-type AL.the-laws;
-  says = λ w a r z. outcomeOf (z .vol) (z .pers) (z .old) (z .txs) r ≡ called-as (storeOf (w .vol) (w .pers) (w .old) (a .0) (w .txs)) (callOf (a .1 .0));
+  says = λ w a r z. outcomeOf (z .vol) (z .pers) (z .old) (z .txs) r ≡ called-as (storeOf (w .vol) (w .pers) (w .old) (a .0) (w .txs)) (a .1 .0);
 }
 
 -- the machine values of what is held and of what a call gave back
@@ -202,8 +201,8 @@ module _ {M : Type 1} (𝓤 : URA M) (H : Heap 𝓤) (A : Atoms 𝓤) (W : Given
   abbrev held-so : (h : Held) → Is H′.the-row h (value h ∷ []) → Passed 𝓤 H A H′.the-row
   held-so h is = of 𝓤 H A H′.the-row (LL.makes H′.the-type HL.the-plain 𝓤 H A) h (value h) is
 
-  abbrev act-so : (a : Act) → Is Act′.the-row a (only (EL.vals Act′.the-type ActL.the-laws a) ∷ []) → Passed 𝓤 H A Act′.the-row
-  act-so a is = of 𝓤 H A Act′.the-row (EL.makes Act′.the-type ActL.the-plain 𝓤 H A) a (only (EL.vals Act′.the-type ActL.the-laws a)) is
+  abbrev asked-so : (a : Call) → Is Call′.the-row a (only (EL.vals Call′.the-type CallL.the-laws a) ∷ []) → Passed 𝓤 H A Call′.the-row
+  asked-so a is = of 𝓤 H A Call′.the-row (EL.makes Call′.the-type CallL.the-plain 𝓤 H A) a (only (EL.vals Call′.the-type CallL.the-laws a)) is
 
   -- the locals after i calls, when the place of the next call is j, and the rest
   abbrev cells-now : ℕ → ℕ → List Cell
@@ -217,11 +216,11 @@ module _ {M : Type 1} (𝓤 : URA M) (H : Heap 𝓤) (A : Atoms 𝓤) (W : Given
   rest-at i = ‵ (Closes u8 (named 0) κ b o γ q ys) ∷ ‵ (row u8 fullShare (textAt ys i .bytes) b o) ∷ raw (fact 𝓤 (Stands ys i)) ∷ []
 
   walk : (𝓣 : Tables 𝓤 H) → FmC 𝓤 H (W .laws) (𝓣 .C) → Triple 𝓤 (𝓣 .C #blank) (ByValue Blank 𝓤 H A) → Triple 𝓤 (𝓣 .C #nothing-held) (ByValue Nothing 𝓤 H A)
-      → Triple 𝓤 (𝓣 .C #make-fresh) (Calling 𝓤 H A Fresh-store) → Triple 𝓤 (𝓣 .C #act-at) (ByValue ActAt 𝓤 H A) → Triple 𝓤 (𝓣 .C #call) (Calling 𝓤 H A Call)
+      → Triple 𝓤 (𝓣 .C #make-fresh) (Calling 𝓤 H A Fresh-store) → Triple 𝓤 (𝓣 .C #asked-at) (ByValue AskedAt 𝓤 H A) → Triple 𝓤 (𝓣 .C #call) (Calling 𝓤 H A Called)
       → Triple 𝓤 (𝓣 .C #tell) (Telling 𝓤 H A)
       → ent 𝓤 (onEntry 𝓤 H A f.signature (κ, tt) (q, tt) x at) (WpFn 𝓤 H (𝓣 .C) (𝓣 .Λ) code.function (s ∷ []) Post)
   unfolding afterTurn
-  walk 𝓣 fm known-blank known-nothing known-fresh known-act known-call known-tell =
+  walk 𝓣 fm known-blank known-nothing known-fresh known-asked known-call known-tell =
       qed W ((‵ (flft κ q) ⊛ ‵ ftrue) ∷ ‵ (owns (MutSlice (named 0) κ u8 ∷ []) x at) ∷ []) ∵ enter ! (𝓣 .C) (𝓣 .Λ) code.function (s ∷ []) _ $
       begins ! (λ l₀ l₁ l₂ l₃ l₄ l₅ l₆ l₇ l₈ l₉ l₁₀ l₁₁ l₁₂ l₁₃ l₁₄ l₁₅ l₁₆ l₁₇ l₁₈ l₁₉ l₂₀ l₂₁ l₂₂ l₂₃ l₂₄ l₂₅ l₂₆ l₂₇ l₂₈ l₂₉ l₃₀ l₃₁ l₃₂ l₃₃ l₃₄. params1 ! $
       pass1 ! (init ! 1 refl (tt, (tt, (record { fits = room .0 }, tt)))) $ pass0 ! $ move ! (70 ∷ 71 ∷ []) $ opens u8 (named 0) κ b o γ ! tt q ys $ move ! (1 ∷ 0 ∷ []) $ sinks ! 2 $
@@ -252,22 +251,22 @@ module _ {M : Type 1} (𝓤 : URA M) (H : Heap 𝓤) (A : Atoms 𝓤) (W : Given
       (λ i l.
       let next : i + 1 < 2 ^ 64 = omega arith in
       move ! (72 ∷ []) $ heard ! (Stands ys i) (λ k.
-      comes ! fm (by-value ActAt 𝓤 H A W (𝓣 .C #act-at) (fm #act-at) known-act _ (word 𝓤 H A W i (omega arith), tt)) (λ _. and-then ! (held ! 9 refl) (no-more !)) (λ act e₃.
-      land ! (from ! (stop !)) (init ! 10 refl (EL.lawful Act′.the-type ActL.the-laws 𝓤 H A W tt .typed act _ (e₃ .0) .0)) $
+      comes ! fm (by-value AskedAt 𝓤 H A W (𝓣 .C #asked-at) (fm #asked-at) known-asked _ (word 𝓤 H A W i (omega arith), tt)) (λ _. and-then ! (held ! 9 refl) (no-more !)) (λ asked e₃.
+      land ! (from ! (stop !)) (init ! 10 refl (EL.lawful Call′.the-type CallL.the-laws 𝓤 H A W tt .typed asked _ (e₃ .0) .0)) $
       borrows ! 23 24 refl tt tt tt $ borrows ! 25 26 refl tt tt tt $ borrows ! 27 28 refl tt tt tt $ borrows ! 29 30 refl tt tt tt $ move ! (2 ∷ 3 ∷ 4 ∷ 5 ∷ []) $ join ! $ join ! $ join ! $
-      comes ! fm (lent 𝓤 H A W (𝓣 .C #call) (fm #call) Call known-call (held-so (heldAt i) (k .held), (act-so act (e₃ .0), tt)) l₂ l₃ l₄ l₅ (rowsAt i) (k .long))
+      comes ! fm (lent 𝓤 H A W (𝓣 .C #call) (fm #call) Called known-call (held-so (heldAt i) (k .held), (asked-so asked (e₃ .0), tt)) l₂ l₃ l₄ l₅ (rowsAt i) (k .long))
       (λ _. and-then ! (held ! 21 refl) (and-then ! (held ! 23 refl) (and-then ! (held ! 25 refl) (and-then ! (held ! 27 refl) (and-then ! (held ! 4 refl) (and-then ! (held ! 7 refl)
       (no-more !))))))) (λ w e₄.
-      let on = called i (w .1) (w .0) act (e₃ .1) (e₄ .2) in
+      let on = called i (w .1) (w .0) asked (e₃ .1) (e₄ .2) in
       land ! (from ! (stop !)) (init ! 8 refl (given-ok 𝓤 H A W (w .0) (e₄ .0))) $ split ! $ split ! $ split ! $ move ! (4 ∷ 5 ∷ 0 ∷ 1 ∷ 2 ∷ 3 ∷ []) $
       rewrite ! 2 (Words l₂) (on .vol) refl $ rewrite ! 3 (Words l₃) (on .pers) refl $ rewrite ! 4 (Words l₄) (on .old) refl $ rewrite ! 5 (Records l₅) (on .txs) refl $
       relends ! 1 31 32 refl refl tt tt (room .0) $ borrows ! 33 34 refl tt tt tt $ move ! (71 ∷ 3 ∷ []) $ join ! $
       -- [the buffer and the persistent row; local i at i + 1 before it, and at i after it]
-      comes ! fm (telling 𝓤 H A W (𝓣 .C #tell) (fm #tell) known-tell (textAt ys i .at) act _ (e₃ .0) (w .0 .answer) _ (answer-is (w .0) (e₄ .0)) (k .place) b o l₃ (rowsAt (suc i) .pers)
+      comes ! fm (telling 𝓤 H A W (𝓣 .C #tell) (fm #tell) known-tell (textAt ys i .at) asked _ (e₃ .0) (w .0 .answer) _ (answer-is (w .0) (e₄ .0)) (k .place) b o l₃ (rowsAt (suc i) .pers)
       (long-on on (e₄ .1) .pers) (textAt ys i .bytes) (length ys) (k .bytes) room)
       (λ _. and-then ! (held ! 32 refl) (and-then ! (held ! 8 refl) (and-then ! (held ! 10 refl) (and-then ! (answer-in ! 11 (w .0) refl refl)
       (and-then ! (held ! 34 refl) (no-more !)))))) (λ u e₅.
-      let more = wrote i (w .1) (w .0) act (e₃ .1) (e₄ .2) ys (u .1) (u .0) (e₅ .2) in
+      let more = wrote i (w .1) (w .0) asked (e₃ .1) (e₄ .2) ys (u .1) (u .0) (e₅ .2) in
       land ! (from ! (stop !)) (store ! 8 refl (word-ok (e₅ .0))) $ split ! $ sinks ! 1 $ move ! (1 ∷ 2 ∷ 3 ∷ 0 ∷ []) $
       assigns ! (of-opd ! (held-in ! 11 (w .0) refl refl)) (from ! (stop !)) (store ! 7 refl (held-ok 𝓤 H A W (w .0 .held) (held-is (w .0) (e₄ .0)))) $
       rewrite ! 7 (λ (g : Held). ‵ (fat fullShare HL.mir l₇ 0 (value g))) (on .held) refl $
@@ -287,7 +286,7 @@ module _ {M : Type 1} (𝓤 : URA M) (H : Heap 𝓤) (A : Atoms 𝓤) (W : Given
 
 run-meets : {M : Type 1} (𝓤 : URA M) (H : Heap 𝓤) (A : Atoms 𝓤) → Given 𝓤 H A → (mem : Memory → SProp 𝓤) (run : Routine → Fun 𝓤) (𝓣 : Tables 𝓤 H)
     → Triple 𝓤 (𝓣 .C #blank) (ByValue Blank 𝓤 H A) → Triple 𝓤 (𝓣 .C #nothing-held) (ByValue Nothing 𝓤 H A) → Triple 𝓤 (𝓣 .C #make-fresh) (Calling 𝓤 H A Fresh-store)
-    → Triple 𝓤 (𝓣 .C #act-at) (ByValue ActAt 𝓤 H A) → Triple 𝓤 (𝓣 .C #call) (Calling 𝓤 H A Call) → Triple 𝓤 (𝓣 .C #tell) (Telling 𝓤 H A)
+    → Triple 𝓤 (𝓣 .C #asked-at) (ByValue AskedAt 𝓤 H A) → Triple 𝓤 (𝓣 .C #call) (Calling 𝓤 H A Called) → Triple 𝓤 (𝓣 .C #tell) (Telling 𝓤 H A)
     → Meets 𝓤 H A f.signature (WpFn 𝓤 H (𝓣 .C) (𝓣 .Λ) code.function) (f.spec 𝓤 H A mem run)
 run-meets 𝓤 H A W mem run 𝓣 k₁ k₂ k₃ k₄ k₅ k₆ =
     meets 𝓤 H A W f.ended stayed (f.clauses 𝓤 H A mem run) 𝓣 code.function (goes-slice 𝓤 H A W 1 0 tt (plain (λ _. u8)), tt) (λ κs. (slice-vals, tt)) (λ κs. (mut-slice-tells (named 0) (κs .0) u8, tt))
@@ -302,6 +301,6 @@ run-spec 𝓤 H 𝓜 𝓖 𝓡 =
     (cited 𝓤 H (ByValue Blank 𝓤 H (𝓖 .A)) 𝓜 𝓡 code.env #blank blank-def.routine code.calls-machine·work·blank (blank-thm.met 𝓤 H 𝓜 𝓖 𝓡))
     (cited 𝓤 H (ByValue Nothing 𝓤 H (𝓖 .A)) 𝓜 𝓡 code.env #nothing-held nothing-held-def.routine code.calls-join·nothing-held (nothing-held-thm.met 𝓤 H 𝓜 𝓖 𝓡))
     (cited 𝓤 H (Calling 𝓤 H (𝓖 .A) Fresh-store) 𝓜 𝓡 code.env #make-fresh make-fresh-def.routine code.calls-machine·make-fresh (make-fresh-thm.met 𝓤 H 𝓜 𝓖 𝓡))
-    (cited 𝓤 H (ByValue ActAt 𝓤 H (𝓖 .A)) 𝓜 𝓡 code.env #act-at act-at-def.routine code.calls-join·act-at (act-at-thm.met 𝓤 H 𝓜 𝓖 𝓡))
-    (cited 𝓤 H (Calling 𝓤 H (𝓖 .A) Call) 𝓜 𝓡 code.env #call call-def.routine code.calls-machine·call (call-thm.met 𝓤 H 𝓜 𝓖 𝓡))
+    (cited 𝓤 H (ByValue AskedAt 𝓤 H (𝓖 .A)) 𝓜 𝓡 code.env #asked-at asked-at-def.routine code.calls-join·asked-at (asked-at-thm.met 𝓤 H 𝓜 𝓖 𝓡))
+    (cited 𝓤 H (Calling 𝓤 H (𝓖 .A) Called) 𝓜 𝓡 code.env #call call-def.routine code.calls-machine·call (call-thm.met 𝓤 H 𝓜 𝓖 𝓡))
     (cited 𝓤 H (Telling 𝓤 H (𝓖 .A)) 𝓜 𝓡 code.env #tell tell-def.routine code.calls-join·tell·tell (tell-thm.met 𝓤 H 𝓜 𝓖 𝓡)))

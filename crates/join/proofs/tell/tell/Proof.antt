@@ -1,5 +1,4 @@
 -- `join::tell::tell` meets its contract: the flags that were tested are those of the call and its answer.
-use Rattle.dtml.specs.Acts.{callOf}
 use Rattle.dtml.specs.Table.{reply}
 use Rattle.join.proofs.Texts.{told-so, tells-crash, tells-first, tells-more}
 use borrow.Author.Needs.{needs}
@@ -12,8 +11,8 @@ number-requires c κs = search needs
 value-requires : tie.Need-value-requires
 value-requires c κs = search needs
 
-reaches-all-requires : tie.Need-reaches-all-requires
-reaches-all-requires c κs = search needs
+power-fails-requires : tie.Need-power-fails-requires
+power-fails-requires c κs = search needs
 
 put-words-requires : tie.Need-put-words-requires
 put-words-requires c κs = search needs
@@ -32,12 +31,12 @@ returns c =
     let at-line = c .before .before in
     let at-words = at-line .before .before .before .before .before in
     let at-if = at-words .before .before in
-    let at-reaches = at-if .before in
-    let at-value = at-reaches .before in
+    let at-fails = at-if .before in
+    let at-value = at-fails .before in
     let at-number = at-value .before in
     let at-args = at-number .before .before .before in
-    told-so (callOf (at-args .args .act)) (reply (at-args .args .answer)) (at-args .args .pers .now) _ _ _ _ _
-    (at-reaches .reaches-all .ensures) (at-number .number .ensures) (at-value .value .ensures)
+    told-so (at-args .args .asked) (reply (at-args .args .answer)) (at-args .args .pers .now) _ _ _ _ _
+    (at-fails .power-fails .ensures) (at-number .number .ensures) (at-value .value .ensures)
     (tells-crash _ _ _ _ _ _ _ (at-if .if1 .taken) (at-words .put-words .ensures) (at-line .put-line .ensures))
 
 put-answered-requires : tie.Need-put-answered-requires
@@ -50,12 +49,12 @@ returns-2 : tie.Need-returns-2
 returns-2 c =
     let at-answered = c .before .before .before in
     let at-if = at-answered .before .before in
-    let at-reaches = at-if .before in
-    let at-value = at-reaches .before in
+    let at-fails = at-if .before in
+    let at-value = at-fails .before in
     let at-number = at-value .before in
     let at-args = at-number .before .before .before in
-    told-so (callOf (at-args .args .act)) (reply (at-args .args .answer)) (at-args .args .pers .now) _ _ _ _ _
-    (at-reaches .reaches-all .ensures) (at-number .number .ensures) (at-value .value .ensures)
+    told-so (at-args .args .asked) (reply (at-args .args .answer)) (at-args .args .pers .now) _ _ _ _ _
+    (at-fails .power-fails .ensures) (at-number .number .ensures) (at-value .value .ensures)
     (tells-first _ _ _ _ _ _ (at-if .if1 .left) (c .if2 .taken) (at-answered .put-answered .ensures))
 
 put-words-requires-2 : tie.Need-put-words-requires-2
@@ -70,12 +69,12 @@ returns-3 c =
     let at-if2 = at-words .before .before in
     let at-answered = at-if2 .before .before .before in
     let at-if = at-answered .before .before in
-    let at-reaches = at-if .before in
-    let at-value = at-reaches .before in
+    let at-fails = at-if .before in
+    let at-value = at-fails .before in
     let at-number = at-value .before in
     let at-args = at-number .before .before .before in
-    told-so (callOf (at-args .args .act)) (reply (at-args .args .answer)) (at-args .args .pers .now) _ _ _ _ _
-    (at-reaches .reaches-all .ensures) (at-number .number .ensures) (at-value .value .ensures)
+    told-so (at-args .args .asked) (reply (at-args .args .answer)) (at-args .args .pers .now) _ _ _ _ _
+    (at-fails .power-fails .ensures) (at-number .number .ensures) (at-value .value .ensures)
     (tells-more _ _ _ _ _ _ _ (at-if .if1 .left) (at-if2 .if2 .left) (at-answered .put-answered .ensures) (at-words .put-words2 .ensures))
 
 pub tell-spec : {M : Type 1} → statement M
@@ -84,7 +83,7 @@ tell-spec =
     (tie.spec
     number-requires
     value-requires
-    reaches-all-requires
+    power-fails-requires
     put-words-requires
     slice-aggregate-put-line
     put-line-requires

@@ -12,13 +12,13 @@ use Rattle.numbers.proofs.records.crash_if.Statement.{statement}
 use Rattle.numbers.proofs.records.crash_if.Tie as tie
 
 abbrev Inv-loop : tie.InvT-loop
-Inv-loop records₀ cut at₀ records at = (at ≤ 256) × (at % 4 ≡ 0) × (length records ≡ length records₀) × (crashing at records ≡ crashNumbers records₀)
+Inv-loop records₀ crashed at₀ records at = (at ≤ 256) × (at % 4 ≡ 0) × (length records ≡ length records₀) × (crashing at records ≡ crashNumbers records₀)
 
 abbrev μ-loop : tie.MeasureT-loop
-μ-loop records₀ cut at₀ records at = 256 - at
+μ-loop records₀ crashed at₀ records at = 256 - at
 
 returns : tie.Need-returns Inv-loop μ-loop
-returns c = rw (not-true (c .before .before .args .cut) (c .if1 .taken))
+returns c = rw (not-true (c .before .before .args .crashed) (c .if1 .taken))
 
 loop-holds : tie.Need-loop-holds Inv-loop μ-loop
 loop-holds c = (omega arith, refl, refl, refl)
@@ -56,7 +56,7 @@ same-length c = c .before .loop .inv .2
 returns-2 : tie.Need-returns-2 Inv-loop μ-loop
 returns-2 c =
     let at = c .before in
-    rw (not-false (at .before .before .before .args .cut) (at .before .if1 .left)) (sym (crash-end (at .loop .at) _ (omega arith)) ∙ at .loop .inv .3)
+    rw (not-false (at .before .before .before .args .crashed) (at .before .if1 .left)) (sym (crash-end (at .loop .at) _ (omega arith)) ∙ at .loop .inv .3)
 
 pub crash-if-spec : {M : Type 1} → statement M
 crash-if-spec =
