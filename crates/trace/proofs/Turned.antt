@@ -16,10 +16,10 @@ use Rattle.dtml.specs.declared.Recovery.{Recovery}
 use Rattle.dtml.specs.declared.Recovery.the-variants.{Idle, C1}
 use Rattle.dtml.specs.declared.Sys.{Sys}
 use Rattle.dtml.specs.declared.Tx.{Tx}
-use Rattle.dtml.specs.Table.{Reply, reply, says}
+use Rattle.dtml.specs.Table.{Reply, reply}
 use Rattle.dtml.specs.Store.{Memory, memory, Store, store, fresh, recordAt}
 use Rattle.dtml.specs.Checks.{notIdle}
-use Rattle.dtml.specs.Handed.{Turned, Happened, Left, turnLeft, eventLeft, callOne, callSystem, carry, isCrash, crashed, reach}
+use Rattle.dtml.specs.Handed.{Left, turnLeft, eventLeft, callOne, callSystem, carry, isCrash, crashed, reach}
 use Rattle.dtml.proofs.Happens.{Counts, Counted, counted-so, refused-so, crash-marks}
 use Rattle.turn.specs.declared.Turn.{Turn}
 use Rattle.turn.specs.declared.Turn.the-variants as Turn
