@@ -20,7 +20,7 @@ use Rattle.text.specs.Text.{decimal}
 
 -- ---- the calls, by their place: an operation is asked for, and then its lines are done
 
--- of the records; transaction 0 is cut by call 17, and then comes transaction 1
+-- of a record
 unfoldable pub askAt : ℕ → Ask
 askAt i =
     pick (eqb i 0) begin
@@ -33,6 +33,7 @@ askAt i =
     (pick (eqb i 42) commit
     step)))))))
 
+-- the power failure and recovery are calls 17 and 18; transaction 0 comes before, transaction 1 after
 unfoldable pub askedAt : ℕ → Call
 askedAt i = pick (eqb i 17) (sys crash) (pick (eqb i 18) (sys (recoverUpTo 1000)) (on (pick (ltb i 17) 0 1) (askAt i)))
 

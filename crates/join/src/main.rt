@@ -28,7 +28,7 @@ fn owner(i: usize) -> u64
     if before { 0 } else { 1 }
 }
 
-// What is asked of the records: an operation, and then its lines are done one by one.
+// What is asked of a record: an operation is asked for, and then its lines are done one by one.
 fn ask_at(i: usize) -> Ask
     ensures { λ r. ⌜ r ≡ askAt i ⌝ }
 {
@@ -45,7 +45,7 @@ fn ask_at(i: usize) -> Ask
     }
 }
 
-// The calls, in order.
+// The calls, in order: all but the power failure and recovery are on their owner's record.
 fn asked_at(i: usize) -> Call
     ensures { λ r. ⌜ r ≡ askedAt i ⌝ }
 {
