@@ -99,7 +99,6 @@ unique-outcomes 𝓤 =
       stages-stage = (λ κs a. refl, λ H A mem run κs a g x y. both 𝓤 (result x y));
       stages-is-fresh = (λ κs a. refl, λ H A mem run κs a g x y. both 𝓤 (result x y));
       stages-is-ready = (λ κs a. refl, λ H A mem run κs a g x y. both 𝓤 (result x y));
-      stages-is-at-line = (λ κs a. refl, λ H A mem run κs a g x y. both 𝓤 (result x y));
       stages-is-live = (λ κs a. refl, λ H A mem run κs a g x y. both 𝓤 (result x y));
       stages-not-idle = (λ κs a. refl, λ H A mem run κs a g x y. both 𝓤 (result x y));
       parts-number = (λ κs a. refl, λ H A mem run κs a g x y. both 𝓤 (result x y));
