@@ -2,7 +2,7 @@
 -- A refusal of a call on a record has a number of 9 or above, and a crash leaves the marks: by the same ways.
 use Prim.Native.Nat.{ℕ, zero, suc}
 use mathlib.Core.Path.{_≡_, refl, sym, subst}
-use mathlib.Core.Bool.{Bool, true, false}
+use mathlib.Core.Bool.{true, false}
 use mathlib.Core.List.{List, [], _∷_}
 use lib.ListN.{length}
 use lib.Dec.{eqb, leb}
@@ -16,7 +16,7 @@ use Rattle.dtml.specs.Asked.{Ask, begin, read, write, commit, step, Sys,
 use Rattle.dtml.specs.Lines.{anyMark, recoveryLine}
 use Rattle.dtml.specs.First.{Check, _⇒_, first}
 use Rattle.dtml.specs.Checks.{unfit, unfitMemory, unfitOne, notIdle, askChecks, sysChecks}
-use Rattle.dtml.specs.Calls.{ask, upTo, oneMore, system, act, call, refused}
+use Rattle.dtml.specs.Calls.{ask, upTo, system, act, call, refused}
 use Rattle.dtml.specs.Counting.{crashesIn, linesIn, cutIn}
 use Rattle.dtml.specs.Handed.{Turned, no-turn, a-turn, Happened, nothing, a-flush, a-crash, some-lines, callOne, happens, callSystem}
 use Rattle.dtml.proofs.Words.{pick-case}

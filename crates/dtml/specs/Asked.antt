@@ -1,5 +1,4 @@
 -- What can be asked of a store, and what is left of it.
-use Prim.Native.Nat.{ℕ}
 use Rattle.dtml.specs.declared.Tx.{Tx}
 use Rattle.dtml.specs.declared.Phase.{Phase}
 use Rattle.dtml.specs.declared.Phase.the-variants.{Fresh}

@@ -12,12 +12,13 @@ use Rattle.dtml.specs.declared.Answer.{Answer}
 use Rattle.dtml.specs.declared.Ask.{Ask}
 use Rattle.dtml.specs.declared.Call.{Call}
 use Rattle.dtml.specs.declared.Call.the-variants.{On as on, Of as sys}
+use Rattle.dtml.specs.declared.Phase.the-variants.{Fresh}
 use Rattle.dtml.specs.declared.Recovery.{Recovery}
 use Rattle.dtml.specs.declared.Recovery.the-variants.{Idle, C1}
 use Rattle.dtml.specs.declared.Sys.{Sys}
 use Rattle.dtml.specs.declared.Tx.{Tx}
 use Rattle.dtml.specs.Table.{Reply, reply}
-use Rattle.dtml.specs.Store.{Memory, memory, Store, store, fresh, recordAt}
+use Rattle.dtml.specs.Store.{Memory, memory, Store, store, fresh, recordAt, tx}
 use Rattle.dtml.specs.Checks.{notIdle}
 use Rattle.dtml.specs.Handed.{Left, turnLeft, eventLeft, callOne, callSystem, carry, isCrash, crashed, reach}
 use Rattle.dtml.proofs.Happens.{Counts, Counted, counted-so, refused-so, crash-marks}
@@ -156,23 +157,23 @@ MovesSo vol pers old marks out r t w B y = Moves y (memory vol pers old marks (y
 
 module _ {x : Moved} {d : Course} {r : Recovery} {t : Tx} {vol pers old marks out : List ℕ} {g place : ℕ} {n : Totals} {w : Moment} {B : Type 0} (on-course : d ≡ onCourse g n place) where
   -- neither
-  pub still-moves : x ≡ stillOf d r t → (moment (memory vol pers old marks g) r t n (buffer out place) false ≡ w) × B → MovesSo vol pers old marks out r t w B x
-  still-moves is so = subst (MovesSo vol pers old marks out r t w B) (sym (is ∙ ap (λ (u : Course). stillOf u r t) on-course))
-      (record { so = so .0; same-tx = λ e. refl; turned-only = λ e. true-not (sym e); unhealed = λ e. (refl, refl) }, so .1)
+  pub still-moves : x ≡ stillOf d t → (moment (memory vol pers old marks g) r t n (buffer out place) false ≡ w) × B → MovesSo vol pers old marks out r t w B x
+  still-moves is so = subst (MovesSo vol pers old marks out r t w B) (sym (is ∙ ap (λ (u : Course). stillOf u t) on-course))
+      (record { so = so .0; turned-only = λ e. true-not (sym e); unhealed = λ e. refl }, so .1)
 
   -- the record
-  pub went-moves : {t′ : Tx} → x ≡ record { course = d; tx = t′; recovery = r; turned = true; healed = false; crashed = false }
+  pub went-moves : {t′ : Tx} → x ≡ record { course = d; tx = t′; recovery = Idle; turned = true; healed = false; crashed = false }
       → (moment (memory vol pers old marks g) r t′ n (buffer out place) false ≡ w) × B → MovesSo vol pers old marks out r t w B x
   went-moves {t′} is so = subst (MovesSo vol pers old marks out r t w B)
-      (sym (is ∙ ap (λ (u : Course). record { course = u; tx = t′; recovery = r; turned = true; healed = false; crashed = false }) on-course))
-      (record { so = so .0; same-tx = λ e. true-not e; turned-only = λ e. (refl, refl); unhealed = λ e. (refl, refl) }, so .1)
+      (sym (is ∙ ap (λ (u : Course). record { course = u; tx = t′; recovery = Idle; turned = true; healed = false; crashed = false }) on-course))
+      (record { so = so .0; turned-only = λ e. refl; unhealed = λ e. refl }, so .1)
 
   -- recovery
-  pub healed-moves : {r′ : Recovery} {b : Bool} → x ≡ record { course = d; tx = t; recovery = r′; turned = false; healed = true; crashed = b }
+  pub healed-moves : {r′ : Recovery} {b : Bool} → x ≡ record { course = d; tx = tx 0 Fresh; recovery = r′; turned = false; healed = true; crashed = b }
       → (moment (memory vol pers old marks g) r′ t n (buffer out place) b ≡ w) × B → MovesSo vol pers old marks out r t w B x
   healed-moves {r′} {b} is so = subst (MovesSo vol pers old marks out r t w B)
-      (sym (is ∙ ap (λ (u : Course). record { course = u; tx = t; recovery = r′; turned = false; healed = true; crashed = b }) on-course))
-      (record { so = so .0; same-tx = λ e. refl; turned-only = λ e. true-not (sym e); unhealed = λ e. true-not e }, so .1)
+      (sym (is ∙ ap (λ (u : Course). record { course = u; tx = tx 0 Fresh; recovery = r′; turned = false; healed = true; crashed = b }) on-course))
+      (record { so = so .0; turned-only = λ e. true-not (sym e); unhealed = λ e. true-not e }, so .1)
 
 -- ---- one item
 
@@ -196,15 +197,15 @@ abbrev Stays : List ℕ → List ℕ → List ℕ → List ℕ → Recovery → 
 Stays vol pers old marks r t c out x i =
     Moves x (memory vol pers old marks (x .course .glb)) out r t (turnOf (memory vol pers old marks (c .glb)) r t c out i) × BriefAt (memory vol pers old marks (c .glb)) r t c i
 
-stop-moves : (vol pers old marks : List ℕ) (r : Recovery) (t : Tx) (c : Course) (out : List ℕ) (k : ℕ) → Stays vol pers old marks r t c out (stillOf (overAt c k) r t) (Stops k)
-stop-moves vol pers old marks r t c out k = (record { so = refl; same-tx = λ e. refl; turned-only = λ e. true-not (sym e); unhealed = λ e. (refl, refl) }, tt)
+stop-moves : (vol pers old marks : List ℕ) (r : Recovery) (t : Tx) (c : Course) (out : List ℕ) (k : ℕ) → Stays vol pers old marks r t c out (stillOf (overAt c k) t) (Stops k)
+stop-moves vol pers old marks r t c out k = (record { so = refl; turned-only = λ e. true-not (sym e); unhealed = λ e. refl }, tt)
 
 module _ (vol pers old marks : List ℕ) (r : Recovery) (t : Tx) (c : Course) (out : List ℕ) {item : Item} {x : Moved} where
-  pub turn-stops : {k : ℕ} → item ≡ Stops k → x ≡ stillOf (overAt c k) r t → Stays vol pers old marks r t c out x item
+  pub turn-stops : {k : ℕ} → item ≡ Stops k → x ≡ stillOf (overAt c k) t → Stays vol pers old marks r t c out x item
   turn-stops {k} is e = subst (Stays vol pers old marks r t c out x) (sym is)
       (subst (λ (y : Moved). Stays vol pers old marks r t c out y (Stops k)) (sym e) (stop-moves vol pers old marks r t c out k))
 
-  pub turn-ends : item ≡ End → x ≡ stillOf (overAt c 0) r t → Stays vol pers old marks r t c out x item
+  pub turn-ends : item ≡ End → x ≡ stillOf (overAt c 0) t → Stays vol pers old marks r t c out x item
   turn-ends is e = subst (Stays vol pers old marks r t c out x) (sym is)
       (subst (λ (y : Moved). Stays vol pers old marks r t c out y (Stops 0)) (sym e) (stop-moves vol pers old marks r t c out 0))
 

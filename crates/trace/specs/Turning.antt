@@ -8,6 +8,7 @@ use lib.Dec.{eqb}
 use Rattle.bits.specs.Marks.{pick}
 use Rattle.dtml.specs.declared.Call.{Call}
 use Rattle.dtml.specs.declared.Recovery.{Recovery}
+use Rattle.dtml.specs.declared.Recovery.the-variants.{Idle}
 use Rattle.dtml.specs.declared.Tx.{Tx}
 use Rattle.dtml.specs.Table.{Reply}
 use Rattle.dtml.specs.Store.{Memory, store}
@@ -27,8 +28,8 @@ use Rattle.trace.specs.declared.run.Reached.{Reached}
 abbrev pub onCourse : ℕ → Totals → ℕ → Course
 onCourse glb t place = record { glb = glb; totals = t; place = place; going = true; refusal = 0 }
 
-abbrev pub stillOf : Course → Recovery → Tx → Moved
-stillOf c r t = record { course = c; tx = t; recovery = r; turned = false; healed = false; crashed = false }
+abbrev pub stillOf : Course → Tx → Moved
+stillOf c t = record { course = c; tx = t; recovery = Idle; turned = false; healed = false; crashed = false }
 
 -- ---- a turn
 
@@ -42,11 +43,12 @@ pub record Moment : Type 0 where
   pub refusal : ℕ
   pub crashed : Bool
 
-abbrev pub momentOf : Moved → Memory → List ℕ → Moment
-momentOf x m out = record {
+-- from what the code gives back: what it does not say to be changed is recovery, or the record, as it was handed over
+abbrev pub momentOf : Moved → Memory → List ℕ → Recovery → Tx → Moment
+momentOf x m out r t = record {
   mem = m;
-  rec = x .recovery;
-  tx = x .tx;
+  rec = pick (x .healed) (x .recovery) r;
+  tx = pick (x .turned) (x .tx) t;
   totals = x .course .totals;
   text = buffer out (x .course .place);
   going = x .course .going;
@@ -82,12 +84,11 @@ turnOf m r t c out End = stopped m r t c out 0
 turnOf m r t c out (Stops refusal) = stopped m r t c out refusal
 turnOf m r t c out (Does call bytes) = callMoment m r t c out call
 
--- what the code gives back is that moment, and what it does not say to be changed is as it was
+-- what the code gives back is that moment; where the record is changed recovery is not, and a crash changes recovery
 pub record Moves (x : Moved) (m : Memory) (out : List ℕ) (r : Recovery) (t : Tx) (moment : Moment) : Type 0 where
-  pub so : momentOf x m out ≡ moment
-  pub same-tx : x .turned ≡ false → x .tx ≡ t
-  pub turned-only : x .turned ≡ true → (x .recovery ≡ r) × (x .crashed ≡ false)
-  pub unhealed : x .healed ≡ false → (x .recovery ≡ r) × (x .crashed ≡ false)
+  pub so : momentOf x m out r t ≡ moment
+  pub turned-only : x .turned ≡ true → x .healed ≡ false
+  pub unhealed : x .healed ≡ false → x .crashed ≡ false
 
 abbrev pub slotAt : Item → ℕ
 slotAt End = 0

@@ -7,6 +7,7 @@ use day::Totals;
 use dtml::Answer;
 use dtml::Ask;
 use dtml::Call;
+use dtml::Phase;
 use dtml::Recovery;
 use dtml::Sys;
 use dtml::Tx;
@@ -147,7 +148,8 @@ pub(crate) struct Course {
     pub refusal: u64,
 }
 
-// What one item leaves: how far the replay has come, the record that was handed over and recovery, and which of them were changed; a crash reaches every record.
+// What one item leaves: how far the replay has come; the record that was handed over, if it was changed; recovery, if it was changed; and whether a crash
+// reached every record.
 pub(crate) struct Moved {
     pub course: Course,
     pub tx: Tx,
@@ -191,37 +193,41 @@ fn going_on(glb: u32, totals: Totals, place: usize) -> Course
 }
 
 // Neither the record nor recovery is changed.
-fn still(course: Course, recovery: Recovery, tx: Tx) -> Moved
-    ensures { λ r. ⌜ r ≡ stillOf course recovery tx ⌝ }
+fn still(course: Course, tx: Tx) -> Moved
+    ensures { λ r. ⌜ r ≡ stillOf course tx ⌝ }
 {
     Moved {
         course,
         tx,
-        recovery,
+        recovery: Recovery::Idle,
         turned: false,
         healed: false,
         crashed: false,
     }
 }
 
-// The record is changed.
-fn went(course: Course, recovery: Recovery, tx: Tx) -> Moved
-    ensures { λ r. ⌜ r ≡ record { course = course; tx = tx; recovery = recovery; turned = true; healed = false; crashed = false } ⌝ }
+// The record is changed to this one.
+fn went(course: Course, tx: Tx) -> Moved
+    ensures { λ r. ⌜ r ≡ record { course = course; tx = tx; recovery = Recovery.Idle; turned = true; healed = false; crashed = false } ⌝ }
 {
     Moved {
         course,
         tx,
-        recovery,
+        recovery: Recovery::Idle,
         turned: true,
         healed: false,
         crashed: false,
     }
 }
 
-// Recovery is changed.
-fn healed(course: Course, recovery: Recovery, tx: Tx, crashed: bool) -> Moved
-    ensures { λ r. ⌜ r ≡ record { course = course; tx = tx; recovery = recovery; turned = false; healed = true; crashed = crashed } ⌝ }
+// Recovery is changed to this.
+fn healed(course: Course, recovery: Recovery, crashed: bool) -> Moved
+    ensures { λ r. ⌜ r ≡ record { course = course; tx = txOf 0 Fresh; recovery = recovery; turned = false; healed = true; crashed = crashed } ⌝ }
 {
+    let tx = Tx {
+        loc: 0,
+        phase: Phase::Fresh,
+    };
     Moved {
         course,
         tx,
@@ -233,8 +239,8 @@ fn healed(course: Course, recovery: Recovery, tx: Tx, crashed: bool) -> Moved
 }
 
 // No record more is done.
-fn stop(course: Course, recovery: Recovery, tx: Tx, refusal: u64) -> Moved
-    ensures { λ r. ⌜ r ≡ stillOf (record { glb = course .glb; totals = course .totals; place = course .place; going = false; refusal = refusal }) recovery tx ⌝ }
+fn stop(course: Course, tx: Tx, refusal: u64) -> Moved
+    ensures { λ r. ⌜ r ≡ stillOf (record { glb = course .glb; totals = course .totals; place = course .place; going = false; refusal = refusal }) tx ⌝ }
 {
     let totals = course.totals;
     let over = Course {
@@ -244,7 +250,7 @@ fn stop(course: Course, recovery: Recovery, tx: Tx, refusal: u64) -> Moved
         going: false,
         refusal,
     };
-    still(over, recovery, tx)
+    still(over, tx)
 }
 
 // The record that an item names; where it names none, record 0 is handed over, and stays.
@@ -287,12 +293,12 @@ fn on_record(
         Turn::Refused { answer } => {
             let totals = turned(before, answer);
             let put = put_refusal(out, place, totals.records, answer);
-            still(going_on(glb, totals, put), recovery, tx)
+            still(going_on(glb, totals, put), tx)
         }
         Turn::Went { answer, tx: next } => {
             let totals = turned(before, answer);
             let put = put_answer_if(out, place, totals.records, answer);
-            went(going_on(glb, totals, put), recovery, next)
+            went(going_on(glb, totals, put), next)
         }
     }
 }
@@ -322,12 +328,12 @@ fn on_none(
         Event::Refused { answer } => {
             let totals = added(before, 0, 0, 0);
             let put = put_refusal(out, place, totals.records, answer);
-            still(going_on(glb, totals, put), recovery, tx)
+            still(going_on(glb, totals, put), tx)
         }
-        Event::Flushed => still(going_on(glb, added(before, 0, 0, 0), place), recovery, tx),
+        Event::Flushed => still(going_on(glb, added(before, 0, 0, 0), place), tx),
         Event::Crashed => {
             let totals = added(before, 1, 0, cut_by_crash(recovery, &*marks));
-            healed(going_on(glb, totals, place), Recovery::C1, tx, true)
+            healed(going_on(glb, totals, place), Recovery::C1, true)
         }
         Event::Healed {
             answer,
@@ -336,7 +342,7 @@ fn on_none(
         } => {
             let totals = added(before, 0, lines, 0);
             let put = put_answer_if(out, place, totals.records, answer);
-            healed(going_on(glb, totals, put), next, tx, false)
+            healed(going_on(glb, totals, put), next, false)
         }
     }
 }
@@ -374,8 +380,8 @@ fn turn(
             ),
             Call::Of { sys } => on_none(vol, pers, &*old, marks, out, course, recovery, tx, sys),
         },
-        Item::Stops { refusal } => stop(course, recovery, tx, refusal),
-        Item::End => stop(course, recovery, tx, 0),
+        Item::Stops { refusal } => stop(course, tx, refusal),
+        Item::End => stop(course, tx, 0),
     }
 }
 

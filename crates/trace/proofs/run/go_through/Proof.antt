@@ -22,7 +22,7 @@ use ghost.Atoms.{Atoms}
 use contract.Monad.{Fun}
 use contract.Lifetimes.{Lfts, Shares}
 use contract.Running.{givenOf, tables, tablesOf}
-use types.Kit.{Given, Item, Go, Seq, prop, runs, anyQ, atRet, put, ‵, raw, _⊛_, ⋆, _$_, _∵_, !, qed, by, move, keep, drop, use1, use2, split, join, fsplit, fjoin, feqL, suffices, frame, done}
+use types.Kit.{Given, Item, Go, Seq, prop, runs, anyQ, atRet, put, ‵, _⊛_, ⋆, _$_, _∵_, !, qed, by, move, keep, drop, split, join, fsplit, fjoin, suffices, frame, done}
 use types.Part.{whole, sub, look-in, agg}
 use types.Run.{look, init, store, forget, stop, hop, fld, from, load, lit, of-opd, bin, addr, and-then, no-more, assigns, assigns-last, land, branches, skips, returns, enter, params1, pass1, pass0}
 use sound.WpLaws.{FmC, fmOf, WpFn-mono}
@@ -58,7 +58,6 @@ use Rattle.dtml.proofs.Tx as X
 use Rattle.dtml.proofs.Tx.Laws as X′
 use Rattle.reader.specs.declared.place.Reader.{Reader}
 use Rattle.reader.specs.declared.place.Read.{Read}
-use Rattle.reader.specs.declared.Item.{Item as An-item}
 use Rattle.reader.specs.Trace.{found, script, scriptOf}
 use Rattle.reader.specs.Said.{placeAfter}
 use Rattle.reader.proofs.Item as I
@@ -87,7 +86,7 @@ use Rattle.trace.proofs.Turned.{measure, Stands, After, asks-at, moves,
 use Rattle.trace.proofs.While.{whiles, knows}
 use Rattle.trace.proofs.Reading.{Says, Nexts, α, mach, mach-read, Held as Held-trace, nexts}
 use Rattle.trace.proofs.Asking.{asked}
-use Rattle.trace.proofs.Rows.{Has, HasOne, array-of, whole-array}
+use Rattle.trace.proofs.Rows.{array-of, whole-array}
 use Rattle.trace.proofs.run.Course as C′
 use Rattle.trace.proofs.run.Course.Laws as CL
 use Rattle.trace.proofs.run.Moved as M′
@@ -173,10 +172,10 @@ module _ (s : RefT (List ℕ)) (z : Five) where
   module _ (st : State) (on : st .course .going ≡ true) (r : Read) (e : Says (st .reader) r) (m : Moved) (w′ : Lists)
       (e₂ : Says-of (st .w) (st .course) (st .recovery) (recordAt (st .rows) (slotAt (r .item))) (r .item) m w′) where
     abbrev put-back : List Tx
-    put-back = reach (m .crashed) (set (st .rows) (slotAt (r .item)) (m .tx))
+    put-back = reach (m .crashed) (set (st .rows) (slotAt (r .item)) (pick (m .turned) (m .tx) (recordAt (st .rows) (slotAt (r .item)))))
 
     abbrev Standing-at : ℕ → Type 0
-    Standing-at k = Stands (now s) (length (now (z .v .x))) (now (z .t .x)) (momentOf m (mem w′ (m .course .glb)) (out w′)) put-back k × (measure (now s) k (m .course .going) < left st)
+    Standing-at k = Stands (now s) (length (now (z .v .x))) (now (z .t .x)) (momentOf m (mem w′ (m .course .glb)) (out w′) (st .recovery) (recordAt (st .rows) (slotAt (r .item)))) put-back k × (measure (now s) k (m .course .going) < left st)
 
     stands : Standing-at (r .reader .at)
     stands =
@@ -185,7 +184,7 @@ module _ (s : RefT (List ℕ)) (z : Five) where
         subst Standing-at (sym (moved-to st r e))
         (p .0, subst (λ (b : Bool). measure (now s) (placeAfter at (r .item)) (m .course .going) < measure (now s) at b) (sym on) (p .1))
 
-    abbrev on-state : (v : Recovery) → v ≡ m .recovery → (ts : List Tx) → ts ≡ put-back → r .reader .trace ≡ s → r .reader .at < 2 ^ 64 → Is C′.the-row (m .course) (mach-course (m .course) ∷ [])
+    abbrev on-state : (v : Recovery) → v ≡ pick (m .healed) (m .recovery) (st .recovery) → (ts : List Tx) → ts ≡ put-back → r .reader .trace ≡ s → r .reader .at < 2 ^ 64 → Is C′.the-row (m .course) (mach-course (m .course) ∷ [])
         → Is Y.the-row v (mach-recovery v ∷ []) → Fit z w′ → State
     on-state v qv ts q same fits is v-is fit = record {
       reader = r .reader;
@@ -202,18 +201,21 @@ module _ (s : RefT (List ℕ)) (z : Five) where
       ended = stands .0 .over;
     }
 
-    -- the record as it was
-    kept-tx : m .turned ≡ false → set (st .rows) (slotAt (r .item)) (m .tx) ≡ st .rows
-    kept-tx off = ap (set (st .rows) (slotAt (r .item))) (e₂ .0 .same-tx off) ∙ set-getD (st .rows) (slotAt (r .item)) (txOf 0 Fresh)
+    abbrev back-with : Bool → Bool → List Tx
+    back-with crashed turned = reach crashed (set (st .rows) (slotAt (r .item)) (pick turned (m .tx) (recordAt (st .rows) (slotAt (r .item)))))
 
     when-turned : m .turned ≡ true → set (st .rows) (slotAt (r .item)) (m .tx) ≡ put-back
-    when-turned yes = sym (ap (λ (b : Bool). reach b (set (st .rows) (slotAt (r .item)) (m .tx))) (e₂ .0 .turned-only yes .1))
+    when-turned yes = rw (yes, e₂ .0 .unhealed (e₂ .0 .turned-only yes))
 
-    unless-crashed : m .turned ≡ false → m .crashed ≡ false → st .rows ≡ put-back
-    unless-crashed off none = sym (kept-tx off) ∙ sym (ap (λ (b : Bool). reach b (set (st .rows) (slotAt (r .item)) (m .tx))) none)
+    -- the record as it was
+    unless-turned : m .turned ≡ false → reach (m .crashed) (st .rows) ≡ put-back
+    unless-turned off = ap (reach (m .crashed)) (sym (set-getD (st .rows) (slotAt (r .item)) (txOf 0 Fresh))) ∙ sym (ap (back-with (m .crashed)) off)
 
-    when-crashed : m .turned ≡ false → m .crashed ≡ true → crashTxs (st .rows) ≡ put-back
-    when-crashed off yes = ap crashTxs (sym (kept-tx off)) ∙ sym (ap (λ (b : Bool). reach b (set (st .rows) (slotAt (r .item)) (m .tx))) yes)
+    when-healed : m .healed ≡ true → m .recovery ≡ pick (m .healed) (m .recovery) (st .recovery)
+    when-healed yes = sym (ap (λ (b : Bool). pick b (m .recovery) (st .recovery)) yes)
+
+    unless-healed : m .healed ≡ false → st .recovery ≡ pick (m .healed) (m .recovery) (st .recovery)
+    unless-healed off = sym (ap (λ (b : Bool). pick b (m .recovery) (st .recovery)) off)
 
 true-not : true ≡ false → ⊥
 true-not e = let never : _≡_ {A = ℕ} 0 1 = cc in omega arith
@@ -370,7 +372,7 @@ module _ {M : Type 1} (𝓤 : URA M) (H : Heap 𝓤) (A : Atoms 𝓤) (W : Given
           said : Says-of (st .w) (st .course) (st .recovery) (recordAt (st .rows) (slotAt (r .item))) (r .item) (x .0) (x .1)
           said = subst (λ (k : ℕ). Says-of (st .w) (st .course) (st .recovery) (recordAt (st .rows) k) (r .item) (x .0) (x .1)) (e₁ .0) (e₂ .1 .1)
 
-          abbrev next-state : (v : Recovery) → v ≡ x .0 .recovery → Is Y.the-row v (mach-recovery v ∷ []) → (us : List Tx) → us ≡ put-back s z st on r (e .1) (x .0) (x .1) said → State s z
+          abbrev next-state : (v : Recovery) → v ≡ pick (x .0 .healed) (x .0 .recovery) (st .recovery) → Is Y.the-row v (mach-recovery v ∷ []) → (us : List Tx) → us ≡ put-back s z st on r (e .1) (x .0) (x .1) said → State s z
           next-state v qv v-is us q = on-state s z st on r (e .1) (x .0) (x .1) said v qv us q same fits course-back v-is (e₂ .1 .0)
 
           less : measure (now s) (r .reader .at) (x .0 .course .going) < left s z st
@@ -391,7 +393,7 @@ module _ {M : Type 1} (𝓤 : URA M) (H : Heap 𝓤) (A : Atoms 𝓤) (W : Given
               sets ! (addr ! (from ! (stop !))) 33 refl (tt, tt) $ sets ! (bin ! (held ! 33 refl) (held ! 32 refl) tt) 34 refl (tt, tt) $
               assigns-last ! (of-opd ! (load ! (from ! (fld ! refl (stop !))) (look-in ! 13 (sub ! 1 refl (whole !))))) (from ! (hop ! (look ! 34 refl) (stop !))) (store-elem ! 9 (st .rows) i l₉ 0 (x .0 .tx) refl in-rows tx-back) $
               forget ! 11 refl $ forget ! 12 refl $ forget ! 13 refl $ forget ! 15 refl $ forget ! 16 refl $ forget ! 17 refl $ forget ! 18 refl $ forget ! 19 refl $ forget ! 20 refl $ forget ! 21 refl $ forget ! 22 refl $ forget ! 23 refl $ forget ! 24 refl $ forget ! 25 refl $ forget ! 26 refl $ forget ! 27 refl $ forget ! 28 refl $ forget ! 29 refl $ forget ! 30 refl $ forget ! 31 refl $ forget ! 32 refl $ forget ! 33 refl $ forget ! 34 refl $
-              back (next-state (st .recovery) (sym (said .0 .turned-only (is-true (x .0 .turned) yes) .0)) (st .recovery-is) (set (st .rows) i (x .0 .tx))
+              back (next-state (st .recovery) (unless-healed s z st on r (e .1) (x .0) (x .1) said (said .0 .turned-only (is-true (x .0 .turned) yes))) (st .recovery-is) (set (st .rows) i (x .0 .tx))
               (ap (λ (k : ℕ). set (st .rows) k (x .0 .tx)) (e₁ .0) ∙ when-turned s z st on r (e .1) (x .0) (x .1) said (is-true (x .0 .turned) yes))) less)
               (λ no. sets ! (of-opd ! (load ! (from ! (fld ! refl (stop !))) (look-in ! 13 (sub ! 4 refl (whole !))))) 35 refl (tt, tt) $
               branches ! (held ! 35 refl)
@@ -405,15 +407,17 @@ module _ {M : Type 1} (𝓤 : URA M) (H : Heap 𝓤) (A : Atoms 𝓤) (W : Given
               land ! (from ! (stop !)) (init ! 37 refl (typed-array 𝓤 H A W us _ (e₃ .0))) $
               assigns-last ! (of-opd ! (held ! 37 refl)) (from ! (stop !)) (store ! 9 refl (typed-array 𝓤 H A W us _ (e₃ .0))) $ becomes ! 9 (‵ (records fullShare us l₉ 0)) refl (array-records 𝓤 H A W us _ (e₃ .0) l₉) $
               forget ! 11 refl $ forget ! 12 refl $ forget ! 13 refl $ forget ! 15 refl $ forget ! 16 refl $ forget ! 17 refl $ forget ! 18 refl $ forget ! 19 refl $ forget ! 20 refl $ forget ! 21 refl $ forget ! 22 refl $ forget ! 23 refl $ forget ! 24 refl $ forget ! 25 refl $ forget ! 26 refl $ forget ! 27 refl $ forget ! 28 refl $ forget ! 29 refl $ forget ! 30 refl $ forget ! 31 refl $ forget ! 35 refl $ forget ! 36 refl $ forget ! 37 refl $ forget ! 38 refl $
-              back (next-state (x .0 .recovery) refl recovery-back us (e₃ .1 ∙ when-crashed s z st on r (e .1) (x .0) (x .1) said (is-false (x .0 .turned) no) (is-true (x .0 .crashed) cut))) less)))
+              back (next-state (x .0 .recovery) (when-healed s z st on r (e .1) (x .0) (x .1) said (is-true (x .0 .healed) yes)) recovery-back us
+              (e₃ .1 ∙ sym (ap (λ (b : Bool). reach b (st .rows)) (is-true (x .0 .crashed) cut)) ∙ unless-turned s z st on r (e .1) (x .0) (x .1) said (is-false (x .0 .turned) no))) less)))
               (λ whole. skips ! $
               forget ! 11 refl $ forget ! 12 refl $ forget ! 13 refl $ forget ! 15 refl $ forget ! 16 refl $ forget ! 17 refl $ forget ! 18 refl $ forget ! 19 refl $ forget ! 20 refl $ forget ! 21 refl $ forget ! 22 refl $ forget ! 23 refl $ forget ! 24 refl $ forget ! 25 refl $ forget ! 26 refl $ forget ! 27 refl $ forget ! 28 refl $ forget ! 29 refl $ forget ! 30 refl $ forget ! 31 refl $ forget ! 35 refl $ forget ! 36 refl $
-              back (next-state (x .0 .recovery) refl recovery-back (st .rows) (unless-crashed s z st on r (e .1) (x .0) (x .1) said (is-false (x .0 .turned) no) (is-false (x .0 .crashed) whole))) less))
+              back (next-state (x .0 .recovery) (when-healed s z st on r (e .1) (x .0) (x .1) said (is-true (x .0 .healed) yes)) recovery-back (st .rows)
+              (sym (ap (λ (b : Bool). reach b (st .rows)) (is-false (x .0 .crashed) whole)) ∙ unless-turned s z st on r (e .1) (x .0) (x .1) said (is-false (x .0 .turned) no))) less))
               -- neither is
               (λ off. skips ! $
               forget ! 11 refl $ forget ! 12 refl $ forget ! 13 refl $ forget ! 15 refl $ forget ! 16 refl $ forget ! 17 refl $ forget ! 18 refl $ forget ! 19 refl $ forget ! 20 refl $ forget ! 21 refl $ forget ! 22 refl $ forget ! 23 refl $ forget ! 24 refl $ forget ! 25 refl $ forget ! 26 refl $ forget ! 27 refl $ forget ! 28 refl $ forget ! 29 refl $ forget ! 30 refl $ forget ! 31 refl $ forget ! 35 refl $
-              let kept = said .0 .unhealed (is-false (x .0 .healed) off) in
-              back (next-state (st .recovery) (sym (kept .0)) (st .recovery-is) (st .rows) (unless-crashed s z st on r (e .1) (x .0) (x .1) said (is-false (x .0 .turned) no) (kept .1))) less))
+              back (next-state (st .recovery) (unless-healed s z st on r (e .1) (x .0) (x .1) said (is-false (x .0 .healed) off)) (st .recovery-is) (st .rows)
+              (sym (ap (λ (b : Bool). reach b (st .rows)) (said .0 .unhealed (is-false (x .0 .healed) off))) ∙ unless-turned s z st on r (e .1) (x .0) (x .1) said (is-false (x .0 .turned) no))) less))
 
         more : Seq (Go {0}) W (put 𝓤 H A 15 (‵ (fat fullShare tyBool l₁₅ 0 (vbool true))) (Standing st)) (runs (𝓣 .C) (𝓣 .Λ) E (later-on 2 Mir.turn-1) (anyQ (afterTurn 𝓤 H X L)))
         more =
