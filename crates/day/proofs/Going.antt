@@ -161,7 +161,6 @@ few-more t c r k a l four f =
 
 module _ (n : ℕ) (bs first : List ℕ) (s : Store) (t : Totals) (at : ℕ) (o : Buffer) (going : Going n bs first s t at o) (c : Call) (bytes : ℕ)
     (here : found (drop at bs) ≡ does c bytes) where
-
   w : World
   w = world s (going .past)
 
@@ -222,7 +221,7 @@ module _ (n : ℕ) (bs first : List ℕ) (s : Store) (t : Totals) (at : ℕ) (o 
 
 -- ---- after the last record
 
-totals-same : {a b c d e a′ b′ c′ d′ e′ : ℕ} → a ≡ a′ → b ≡ b′ → c ≡ c′ → d ≡ d′ → e ≡ e′ → totals a b c d e ≡ totals a′ b′ c′ d′ e′
+pub totals-same : {a b c d e a′ b′ c′ d′ e′ : ℕ} → a ≡ a′ → b ≡ b′ → c ≡ c′ → d ≡ d′ → e ≡ e′ → totals a b c d e ≡ totals a′ b′ c′ d′ e′
 totals-same p q r s t = rw (p, q, r, s, t)
 
 -- how the code's end reads: the refusal k, with the number of the record refused

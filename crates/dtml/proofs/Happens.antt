@@ -1,21 +1,24 @@
 -- What a call on no record is counted for, by what it leaves: the ways of `first` are gone through once, and no line of recovery is answered 4, or 9 and above.
+-- A refusal of a call on a record has a number of 9 or above, and a crash leaves the marks: by the same ways.
 use Prim.Native.Nat.{ℕ, zero, suc}
-use mathlib.Core.Path.{_≡_, refl}
+use mathlib.Core.Path.{_≡_, refl, sym, subst}
 use mathlib.Core.Bool.{Bool, true, false}
 use mathlib.Core.List.{List, [], _∷_}
+use lib.ListN.{length}
 use lib.Dec.{eqb, leb}
 use Rattle.bits.specs.Marks.{pick, countOf}
 use Rattle.dtml.specs.declared.Recovery.{Recovery}
+use Rattle.dtml.specs.declared.Tx.{Tx}
 use Rattle.dtml.specs.declared.Recovery.the-variants.{Idle, C1, C2, C3, C4, C5, C6}
 use Rattle.dtml.specs.Table.{Reply, says}
 use Rattle.dtml.specs.Store.{Memory, Store, size}
-use Rattle.dtml.specs.Asked.{Sys, flush, crash, recover, recoverUpTo, sys, Healed, Outcome}
+use Rattle.dtml.specs.Asked.{Ask, begin, read, write, commit, step, Sys, flush, crash, recover, recoverUpTo, sys, Healed, Outcome}
 use Rattle.dtml.specs.Lines.{anyMark, recoveryLine}
 use Rattle.dtml.specs.First.{Check, _⇒_, first}
-use Rattle.dtml.specs.Checks.{unfit, unfitMemory, notIdle, sysChecks}
-use Rattle.dtml.specs.Calls.{upTo, oneMore, system, act, call, refused}
+use Rattle.dtml.specs.Checks.{unfit, unfitMemory, unfitOne, notIdle, askChecks, sysChecks}
+use Rattle.dtml.specs.Calls.{ask, upTo, oneMore, system, act, call, refused}
 use Rattle.dtml.specs.Counting.{crashesIn, linesIn, cutIn}
-use Rattle.dtml.specs.Handed.{Happened, nothing, a-flush, a-crash, some-lines, happens, callSystem}
+use Rattle.dtml.specs.Handed.{Turned, no-turn, a-turn, Happened, nothing, a-flush, a-crash, some-lines, callOne, happens, callSystem}
 use Rattle.dtml.proofs.Words.{pick-case}
 
 -- ---- the ways of a call
@@ -96,3 +99,46 @@ counted-so m r recover =
 counted-so m r (recoverUpTo b) =
     first-case (Counted (recoverUpTo b) r (m .marks)) (unfitMemory m r ⇒ 9 ∷ sysChecks (size m) r (recoverUpTo b)) (λ n. nothing (says n 0) m) (happens m r (recoverUpTo b))
     ((refl, zeros refl refl refl), ((refl, zeros refl refl refl), tt)) (record { crashes = refl; lines = rw (lines-number b (says 0 0) m r (refl, refl) .1); cut = refl })
+
+-- ---- a refusal of a call on a record
+
+-- it has a number of 9 or above
+abbrev Refusal : Turned → Type 0
+Refusal (no-turn a m) = leb 9 (a .number) ≡ true
+Refusal (a-turn d) = Unit {0}
+
+refusal-of : (m : Memory) (r : Recovery) (t : Tx) (i : ℕ) (q : Ask) → Each Refusal (λ n. no-turn (says n 0) m) (askChecks (size m) r t q) → Refusal (callOne m r t i q)
+unfolding callOne
+refusal-of m r t i q refusals =
+    first-case Refusal (unfitOne (length (m .vol)) (length (m .pers)) (length (m .old)) (m .marks) (m .glb) r t ⇒ 9 ∷ leb 64 i ⇒ 11 ∷ askChecks (size m) r t q)
+    (λ n. no-turn (says n 0) m) (a-turn (ask m t q)) (refl, (refl, refusals)) tt
+
+a-refusal : (m : Memory) (r : Recovery) (t : Tx) (i : ℕ) (q : Ask) → Refusal (callOne m r t i q)
+a-refusal m r t i begin = refusal-of m r t i begin (refl, (refl, tt))
+a-refusal m r t i (read w) = refusal-of m r t i (read w) (refl, (refl, (refl, tt)))
+a-refusal m r t i (write w v) = refusal-of m r t i (write w v) (refl, (refl, (refl, tt)))
+a-refusal m r t i commit = refusal-of m r t i commit (refl, (refl, tt))
+a-refusal m r t i step = refusal-of m r t i step (refl, (refl, tt))
+
+pub refused-so : (m : Memory) (r : Recovery) (t : Tx) (i : ℕ) (q : Ask) {a : Reply} {m′ : Memory} → no-turn a m′ ≡ callOne m r t i q → leb 9 (a .number) ≡ true
+refused-so m r t i q e = subst Refusal (sym e) (a-refusal m r t i q)
+
+-- ---- a crash
+
+-- it leaves the marks
+abbrev SameMarks : List ℕ → Happened → Type 0
+SameMarks k (nothing a m) = Unit {0}
+SameMarks k (a-flush m) = Unit {0}
+SameMarks k (a-crash m) = m .marks ≡ k
+SameMarks k (some-lines n h) = Unit {0}
+
+same-marks : (m : Memory) (r : Recovery) (k : Sys) → SameMarks (m .marks) (callSystem m r k)
+unfolding callSystem
+same-marks m r (flush w) = first-case (SameMarks (m .marks)) (unfitMemory m r ⇒ 9 ∷ sysChecks (size m) r (flush w)) (λ n. nothing (says n 0) m) (happens m r (flush w)) (tt, (tt, tt)) tt
+same-marks m r crash = first-case (SameMarks (m .marks)) (unfitMemory m r ⇒ 9 ∷ []) (λ n. nothing (says n 0) m) (happens m r crash) (tt, tt) refl
+same-marks m r recover = first-case (SameMarks (m .marks)) (unfitMemory m r ⇒ 9 ∷ sysChecks (size m) r recover) (λ n. nothing (says n 0) m) (happens m r recover) (tt, (tt, tt)) tt
+same-marks m r (recoverUpTo b) =
+    first-case (SameMarks (m .marks)) (unfitMemory m r ⇒ 9 ∷ sysChecks (size m) r (recoverUpTo b)) (λ n. nothing (says n 0) m) (happens m r (recoverUpTo b)) (tt, (tt, tt)) tt
+
+pub crash-marks : (m : Memory) (r : Recovery) (k : Sys) {m′ : Memory} → a-crash m′ ≡ callSystem m r k → m′ .marks ≡ m .marks
+crash-marks m r k e = subst (SameMarks (m .marks)) (sym e) (same-marks m r k)

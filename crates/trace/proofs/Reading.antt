@@ -26,7 +26,7 @@ use denote.Triple.Entry.{Args}
 use denote.Triple.Statement.{Triple}
 use denote.Triple.Clauses.{AtExit}
 use Rattle.reader.specs.Trace.{found}
-use Rattle.reader.specs.Said.{foundOf, movedOn}
+use Rattle.reader.specs.Said.{movedOn}
 use Rattle.reader.specs.declared.place.Reader.{Reader}
 use Rattle.reader.specs.declared.place.Read.{Read}
 use Rattle.reader.proofs.place.Reader as T
@@ -38,7 +38,7 @@ use Rattle.records.proofs.Calling.{Comes, promised, Heard, hears}
 
 -- what it promises of a reader
 abbrev pub Says : Reader → Read → Type 0
-Says d r = (foundOf (r .item) ≡ found (after (d .at) (now (d .trace)))) × (r .reader ≡ movedOn d)
+Says d r = (r .item ≡ found (after (d .at) (now (d .trace)))) × (r .reader ≡ movedOn d)
 
 abbrev pub Nexts : (κs : Lfts 1) (a : Args next.signature κs) → Read → AtExit next.ended κs → Type 0
 Nexts κs a r e = Says (a .0) r

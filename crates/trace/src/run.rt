@@ -37,11 +37,9 @@ ghost use Rattle.dtml.specs.declared.Phase.the-variants.{Fresh};
 ghost use Rattle.dtml.specs.Store.{memory, store, fresh, tx as txOf};
 ghost use Rattle.dtml.specs.Lines.{crashTxs};
 ghost use Rattle.dtml.specs.Checks.{notIdle};
-
 ghost use Rattle.machine.specs.Given.{storeOf};
 ghost use Rattle.reader.specs.Trace.{scriptOf};
 ghost use Rattle.text.specs.Buffer.{buffer, puts};
-
 ghost use Rattle.day.specs.Replay.{totals as totalsFrom, answerText, done as doneOf};
 ghost use Rattle.day.specs.Ends.{Ends};
 ghost use Rattle.day.specs.Counted.{Few};
@@ -49,12 +47,22 @@ ghost use Rattle.dtml.specs.declared.Call.the-variants.{On as on};
 ghost use Rattle.dtml.specs.declared.Call.the-variants.{Of as sysAsked};
 ghost use Rattle.trace.specs.Turning.{slotAt, callMoment, turnOf, OneLine, OneLineAt, Moves, Brief, BriefAt, Through, onCourse, stillOf};
 
+// A commit, 1, or none.
+fn commits(answer: Answer) -> u64
+    ensures { λ r. ⌜ (r ≡ pick (eqb (reply answer .number) 4) 1 0) × (r ≤ 1) ⌝ }
+{
+    if number(answer) == 4 {
+        return 1;
+    }
+    0
+}
+
 // The numbers of the T line after a call on a record.
 fn turned(totals: Totals, answer: Answer) -> Totals
     requires { ⌜ Few 65536 totals ⌝ }
     ensures { λ r. ⌜ r ≡ totalsFrom (totals .records + 1) (totals .crashes) (totals .lines) (totals .cut) (totals .committed + pick (eqb (reply answer .number) 4) 1 0) ⌝ }
 {
-    let more = if number(answer) == 4 { 1 } else { 0 };
+    let more = commits(answer);
     Totals {
         records: totals.records + 1,
         crashes: totals.crashes,
@@ -78,6 +86,11 @@ fn added(totals: Totals, crashes: u64, lines: u64, cut: u64) -> Totals
     }
 }
 
+// What the type of marks tells, four numbers, for one that has a reference to them. It does nothing.
+fn four(marks: Marks)
+    ensures { λ _. ⌜ length marks ≡ 4 ⌝ }
+{}
+
 // The words in the log, which a crash cuts off, unless recovery was under way already.
 fn cut_by_crash(recovery: Recovery, marks: &Marks) -> u64
     ensures { λ r. ⌜ (r ≡ pick (notIdle recovery) 0 (countOf (now (marks .entry)))) × (r ≤ 256) ⌝ }
@@ -85,6 +98,7 @@ fn cut_by_crash(recovery: Recovery, marks: &Marks) -> u64
     if not_idle(recovery) {
         return 0;
     }
+    four(*marks);
     marks::count(marks)
 }
 
@@ -346,7 +360,18 @@ fn turn(
 {
     match item {
         Item::Does { call, .. } => match call {
-            Call::On { id, ask } => on_record(vol, pers, old, marks, out, course, recovery, tx, id, ask),
+            Call::On { id, ask } => on_record(
+                vol,
+                pers,
+                old,
+                marks,
+                out,
+                course,
+                recovery,
+                tx,
+                id,
+                ask,
+            ),
             Call::Of { sys } => on_none(vol, pers, &*old, marks, out, course, recovery, tx, sys),
         },
         Item::Stops { refusal } => stop(course, recovery, tx, refusal),
@@ -375,7 +400,17 @@ fn go_through(
     while course.going {
         let read = next(reader);
         let i = slot_of(read.item);
-        let done = turn(vol, pers, old, marks, out, course, recovery, rows[i], read.item);
+        let done = turn(
+            vol,
+            pers,
+            old,
+            marks,
+            out,
+            course,
+            recovery,
+            rows[i],
+            read.item,
+        );
         course = done.course;
         reader = read.reader;
         if done.turned {

@@ -14,7 +14,8 @@ while-recovering-requires c κs = search needs
 
 returns : tie.Need-returns
 returns c =
-    rw (c .while-recovering .ensures) (recovering _ _ _ _ (sym (c .before .before .before .before .not-idle .ensures) ∙ c .before .before .before .if1 .taken))
+    let idle = c .before .before .before in
+    rw (c .while-recovering .ensures) (recovering _ _ _ _ (sym (idle .before .not-idle .ensures) ∙ idle .if1 .taken))
 
 unfit-idle-requires : tie.Need-unfit-idle-requires
 unfit-idle-requires c κs = search needs

@@ -2,8 +2,8 @@
 use Prim.Native.Nat.{_≤_, _-_}
 use native.Mathlib.Omega.{arith}
 use mathlib.Core.Path.{_≡_, refl, ap, _∙_}
-use borrow.Author.Needs.{needs}
 use lib.ListN.{length, set, length-set}
+use borrow.Author.Needs.{needs}
 use Rattle.dtml.specs.Store.{recordAt}
 use Rattle.dtml.specs.Lines.{crashTx, crashTxs}
 use Rattle.dtml.proofs.Lift.{default-free}

@@ -1,33 +1,28 @@
--- `trace::run::turn` meets its contract: a record done, counted and printed is `turned`; at the trace's end or at a refused record all stays but that it goes on no more.
+-- `trace::run::turn` meets its contract: a record's call is done by one of two, and at the trace's end or at a refused record all stays but that it goes on no more.
 use borrow.Author.Needs.{needs}
-use denote.Ref.{now}
-use Rattle.trace.specs.Turning.{memoryOf}
-use Rattle.trace.proofs.Turned.{one-line-at, few-number, turned}
+use Rattle.dtml.specs.Store.{memory}
+use Rattle.trace.proofs.Turned.{one-line-of, turn-does, turn-stops, turn-ends}
 use Rattle.trace.proofs.run.turn.Statement.{statement}
 use Rattle.trace.proofs.run.turn.Tie as tie
 
 enum-known-item : tie.Need-enum-known-item
 enum-known-item c = search needs
 
-carry-out-requires : tie.Need-carry-out-requires
-carry-out-requires c κs = search needs
+enum-known-call : tie.Need-enum-known-call
+enum-known-call c = search needs
 
-counted-requires : tie.Need-counted-requires
-counted-requires c κs =
-    let at-item = c .before .before .before .before .before .before .before .before .before .before .before .before .before .before .before .before in
+on-record-requires : tie.Need-on-record-requires
+on-record-requires c κs = search needs
+
+enum-known-call-2 : tie.Need-enum-known-call-2
+enum-known-call-2 c = search needs
+
+on-none-requires : tie.Need-on-none-requires
+on-none-requires c κs =
+    let at-call2 = c .before .before .before .before .before .before in
+    let at-item = at-call2 .before .before .before in
     let start = at-item .before .before .before .before .before .before in
-    (start .pre .0, one-line-at (start .args .item) (at-item .item .given .1) (start .pre .1) _)
-
-put-answer-if-requires : tie.Need-put-answer-if-requires
-put-answer-if-requires c κs =
-    let start = c .before .before .before .before .before .before .before .before .before .before .before .before .before .before .before .before .before .before .before .before .before .before .before .before in
-    few-number _ _ _ _ (c .before .counted .ensures) (start .pre .0)
-
-going-on-requires : tie.Need-going-on-requires
-going-on-requires c κs = search needs
-
-reaches-all-requires : tie.Need-reaches-all-requires
-reaches-all-requires c κs = search needs
+    (start .pre .0, one-line-of (at-item .item .given .1) (at-call2 .call2 .given .1) (start .pre .1))
 
 enum-known-item-2 : tie.Need-enum-known-item-2
 enum-known-item-2 c = search needs
@@ -55,29 +50,53 @@ same-length-4 c = search needs
 
 returns : tie.Need-returns
 returns c =
-    let at-put-answer-if = c .before .before .before .before .before in
-    let at-counted = at-put-answer-if .before .before in
-    let at-carry-out = at-counted .before .before .before .before .before .before .before in
-    let at-item = at-carry-out .before .before .before .before .before .before .before .before .before .before in
+    let at-on-record = c .before .before .before .before .before .before .before .before in
+    let at-call = at-on-record .before .before .before .before .before .before .before in
+    let at-item = at-call .before .before .before in
     let start = at-item .before .before .before .before .before .before in
-    rw (c .before .going-on .ensures) (turned (start .args .item) (memoryOf (now (start .args .vol)) (now (start .args .pers)) (now (start .args .old)) (start .args .course)) _ (start .args .tx) (start .args .course) (now (start .args .out)) (at-carry-out .carry-out .result) (at-item .item .given .1) (at-carry-out .carry-out .ensures) (at-counted .counted .ensures) (at-put-answer-if .put-answer-if .ensures .0) (at-put-answer-if .put-answer-if .ensures .1) (c .reaches-all .ensures))
+    turn-does (at-item .item .given .1) (at-call .call .given .1) (memory (start .args .vol .now) (start .args .pers .now) (start .args .old .now) (start .args .marks .now) (start .args .course .glb)) (start .args .recovery) (start .args .tx) (start .args .course) (start .args .out .now) (at-on-record .on-record .ensures)
+
+same-length-5 : tie.Need-same-length-5
+same-length-5 c = search needs
+
+same-length-6 : tie.Need-same-length-6
+same-length-6 c = search needs
+
+same-length-7 : tie.Need-same-length-7
+same-length-7 c = search needs
+
+same-length-8 : tie.Need-same-length-8
+same-length-8 c = search needs
 
 returns-2 : tie.Need-returns-2
-returns-2 c = (rw (c .stop .ensures, c .before .before .item2 .given .1), rw (c .before .before .item2 .given .1) tt)
+returns-2 c =
+    let at-on-none = c .before .before .before .before .before .before in
+    let at-call2 = at-on-none .before .before .before .before .before .before .before in
+    let at-item = at-call2 .before .before .before in
+    let start = at-item .before .before .before .before .before .before in
+    turn-does (at-item .item .given .1) (at-call2 .call2 .given .1) (memory (start .args .vol .now) (start .args .pers .now) (start .args .old .now) (start .args .marks .now) (start .args .course .glb)) (start .args .recovery) (start .args .tx) (start .args .course) (start .args .out .now) (at-on-none .on-none .ensures)
 
 returns-3 : tie.Need-returns-3
-returns-3 c = (rw (c .stop2 .ensures, c .before .enum-told .given .1), rw (c .before .enum-told .given .1) tt)
+returns-3 c =
+    let at-item2 = c .before .before in
+    let start = at-item2 .before .before .before .before .before .before in
+    turn-stops (start .args .vol .now) (start .args .pers .now) (start .args .old .now) (start .args .marks .now) (start .args .recovery) (start .args .tx) (start .args .course) (start .args .out .now) (at-item2 .item2 .given .1) (c .stop .ensures)
+
+returns-4 : tie.Need-returns-4
+returns-4 c =
+    let at-enum-told = c .before in
+    let start = at-enum-told .before .before .before .before .before .before in
+    turn-ends (start .args .vol .now) (start .args .pers .now) (start .args .old .now) (start .args .marks .now) (start .args .recovery) (start .args .tx) (start .args .course) (start .args .out .now) (at-enum-told .enum-told .given .1) (c .stop2 .ensures)
 
 pub turn-spec : {M : Type 1} → statement M
 turn-spec =
     tie.close
     (tie.spec
     enum-known-item
-    carry-out-requires
-    counted-requires
-    put-answer-if-requires
-    going-on-requires
-    reaches-all-requires
+    enum-known-call
+    on-record-requires
+    enum-known-call-2
+    on-none-requires
     enum-known-item-2
     stop-requires
     enum-told
@@ -87,5 +106,10 @@ turn-spec =
     same-length-3
     same-length-4
     returns
+    same-length-5
+    same-length-6
+    same-length-7
+    same-length-8
     returns-2
-    returns-3)
+    returns-3
+    returns-4)
