@@ -2,8 +2,8 @@
 use dtml::Answer;
 use dtml::Phase;
 use dtml::Tx;
-use stages::is_new;
-use stages::is_waiting;
+use stages::is_fresh;
+use stages::is_ready;
 use stages::stage;
 use turn::Turn;
 use turn::refused;
@@ -12,14 +12,14 @@ ghost use mathlib.Core.Path.{_≡_};
 ghost use lib.Dec.{leb};
 ghost use Rattle.bits.specs.Marks.{pick};
 ghost use Rattle.dtml.specs.Lines.{stage as stageOf};
-ghost use Rattle.dtml.specs.Checks.{isNew, isWaiting};
+ghost use Rattle.dtml.specs.Checks.{isFresh, isReady};
 ghost use Rattle.turn.specs.Turning.{turnOf};
 
 pub fn begin(tx: Tx) -> Turn
-    ensures { λ r. ⌜ r ≡ pick (isNew (stageOf (tx .phase))) (turnOf (Answer.Taken 0) (tx .loc) Phase.B1) (Turn.Refused Answer.NotFresh) ⌝ }
+    ensures { λ r. ⌜ r ≡ pick (isFresh (stageOf (tx .phase))) (turnOf (Answer.Taken 0) (tx .loc) Phase.B1) (Turn.Refused Answer.NotFresh) ⌝ }
 {
     let phase = tx.phase;
-    if is_new(stage(phase)) {
+    if is_fresh(stage(phase)) {
         return to(tx.loc, Phase::B1);
     }
     refused(Answer::NotFresh)
@@ -27,10 +27,10 @@ pub fn begin(tx: Tx) -> Turn
 
 // A record that is ready goes to this line.
 fn invoke(tx: Tx, line: Phase) -> Turn
-    ensures { λ r. ⌜ r ≡ pick (isWaiting (stageOf (tx .phase))) (turnOf (Answer.Taken 0) (tx .loc) line) (Turn.Refused Answer.NotReady) ⌝ }
+    ensures { λ r. ⌜ r ≡ pick (isReady (stageOf (tx .phase))) (turnOf (Answer.Taken 0) (tx .loc) line) (Turn.Refused Answer.NotReady) ⌝ }
 {
     let phase = tx.phase;
-    if is_waiting(stage(phase)) {
+    if is_ready(stage(phase)) {
         return to(tx.loc, line);
     }
     refused(Answer::NotReady)
@@ -39,7 +39,7 @@ fn invoke(tx: Tx, line: Phase) -> Turn
 // Of rows of n words.
 pub fn read(n: usize, tx: Tx, word: u32) -> Turn
     ensures { λ r. ⌜ r ≡ pick (leb n word) (Turn.Refused Answer.NoWord)
-        (pick (isWaiting (stageOf (tx .phase))) (turnOf (Answer.Taken 0) (tx .loc) (Phase.R1 word)) (Turn.Refused Answer.NotReady)) ⌝ }
+        (pick (isReady (stageOf (tx .phase))) (turnOf (Answer.Taken 0) (tx .loc) (Phase.R1 word)) (Turn.Refused Answer.NotReady)) ⌝ }
 {
     if n <= word as usize {
         return refused(Answer::NoWord);
@@ -49,7 +49,7 @@ pub fn read(n: usize, tx: Tx, word: u32) -> Turn
 
 pub fn write(n: usize, tx: Tx, word: u32, value: u32) -> Turn
     ensures { λ r. ⌜ r ≡ pick (leb n word) (Turn.Refused Answer.NoWord)
-        (pick (isWaiting (stageOf (tx .phase))) (turnOf (Answer.Taken 0) (tx .loc) (Phase.W1 word value)) (Turn.Refused Answer.NotReady)) ⌝ }
+        (pick (isReady (stageOf (tx .phase))) (turnOf (Answer.Taken 0) (tx .loc) (Phase.W1 word value)) (Turn.Refused Answer.NotReady)) ⌝ }
 {
     if n <= word as usize {
         return refused(Answer::NoWord);
@@ -58,7 +58,7 @@ pub fn write(n: usize, tx: Tx, word: u32, value: u32) -> Turn
 }
 
 pub fn commit(tx: Tx) -> Turn
-    ensures { λ r. ⌜ r ≡ pick (isWaiting (stageOf (tx .phase))) (turnOf (Answer.Taken 0) (tx .loc) Phase.E1) (Turn.Refused Answer.NotReady) ⌝ }
+    ensures { λ r. ⌜ r ≡ pick (isReady (stageOf (tx .phase))) (turnOf (Answer.Taken 0) (tx .loc) Phase.E1) (Turn.Refused Answer.NotReady) ⌝ }
 {
     invoke(tx, Phase::E1)
 }

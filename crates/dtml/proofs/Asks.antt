@@ -11,14 +11,14 @@ use Rattle.dtml.specs.declared.Recovery.{Recovery}
 use Rattle.dtml.specs.Store.{Memory, recordAt, tx}
 use Rattle.dtml.specs.Lines.{stage}
 use Rattle.dtml.specs.Asked.{Ask}
-use Rattle.dtml.specs.Checks.{notIdle, isNew, isWaiting}
-use Rattle.dtml.specs.History.{Tale, Past, last, taleAt, begins, asks}
+use Rattle.dtml.specs.Checks.{notIdle, isFresh, isReady}
+use Rattle.dtml.specs.History.{Tale, Past, last, taleAt, starting, askedFor}
 use Rattle.dtml.proofs.Invariant.{Free, Plain, Current, Owner, Clean, Ender, Inv}
 use Rattle.dtml.proofs.Roles.{Role, free, owner, ender, role}
 use Rattle.dtml.proofs.FreeLines.{moved}
 use Rattle.dtml.proofs.OwnerLines.{stays}
 
-pub new-fresh : (p : Phase) → isNew (stage p) ≡ true → p ≡ Fresh
+pub new-fresh : (p : Phase) → isFresh (stage p) ≡ true → p ≡ Fresh
 new-fresh Fresh h = refl
 new-fresh Ready h = cc
 new-fresh Committed h = cc
@@ -38,7 +38,7 @@ new-fresh E1 h = cc
 new-fresh E2 h = cc
 new-fresh E3 h = cc
 
-pub waiting-ready : (p : Phase) → isWaiting (stage p) ≡ true → p ≡ Ready
+pub waiting-ready : (p : Phase) → isReady (stage p) ≡ true → p ≡ Ready
 waiting-ready Fresh h = cc
 waiting-ready Ready h = refl
 waiting-ready Committed h = cc
@@ -60,34 +60,34 @@ waiting-ready E3 h = cc
 
 module _ (n : ℕ) (m : Memory) (r : Recovery) (ts : List Tx) (ks : List Tale) (past : Past) (t : ℕ) (ht : t < 64) (i : notIdle r ≡ false)
     (inv : Inv n m r ts ks (last past)) where
-  pub begun : isNew (stage (recordAt ts t .phase)) ≡ true → Inv n m r (set ts t (tx (recordAt ts t .loc) B1)) (set ks t begins) (last past)
+  pub begun : isFresh (stage (recordAt ts t .phase)) ≡ true → Inv n m r (set ts t (tx (recordAt ts t .loc) B1)) (set ks t starting) (last past)
   begun s = go (new-fresh (recordAt ts t .phase) s) (role n m r ts ks (last past) t ht (inv .shape) (inv .mode) i)
     where
       go : recordAt ts t .phase ≡ Fresh → Role n m r ts ks (last past) t
-          → Inv n m r (set ts t (tx (recordAt ts t .loc) B1)) (set ks t begins) (last past)
-      go e (free f) = moved n m r ts ks past t ht i inv (m .glb) _ _ (f .put (recordAt ts t .loc) B1 begins (refl, refl, refl))
+          → Inv n m r (set ts t (tx (recordAt ts t .loc) B1)) (set ks t starting) (last past)
+      go e (free f) = moved n m r ts ks past t ht i inv (m .glb) _ _ (f .put (recordAt ts t .loc) B1 starting (refl, refl, refl))
       go e (owner odd lock own others) =
           absurd (subst (λ p. Owner n m (last past) (recordAt ts t .loc) p (taleAt ks t)) e own)
       go e (ender c odd end others) =
           absurd (subst (λ p. Ender (m .glb) (last past) (recordAt ts t .loc) p (taleAt ks t)) e end)
 
   -- a ready transaction is asked for a, whose first line is p
-  pub asked : (a : Ask) (p : Phase) → isWaiting (stage (recordAt ts t .phase)) ≡ true
+  pub asked : (a : Ask) (p : Phase) → isReady (stage (recordAt ts t .phase)) ≡ true
       → (Plain (taleAt ks t) → Current n (m .glb) (last past) (recordAt ts t .loc) (taleAt ks t)
-      → Free n (m .glb) (last past) (recordAt ts t .loc) p (asks (taleAt ks t) a))
-      → (recordAt ts t .loc ≡ m .glb → Clean n m (last past) (taleAt ks t) → Owner n m (last past) (recordAt ts t .loc) p (asks (taleAt ks t) a))
-      → Inv n m r (set ts t (tx (recordAt ts t .loc) p)) (set ks t (asks (taleAt ks t) a)) (last past)
+      → Free n (m .glb) (last past) (recordAt ts t .loc) p (askedFor (taleAt ks t) a))
+      → (recordAt ts t .loc ≡ m .glb → Clean n m (last past) (taleAt ks t) → Owner n m (last past) (recordAt ts t .loc) p (askedFor (taleAt ks t) a))
+      → Inv n m r (set ts t (tx (recordAt ts t .loc) p)) (set ks t (askedFor (taleAt ks t) a)) (last past)
   asked a p s as-free as-owner = go (waiting-ready (recordAt ts t .phase) s) (role n m r ts ks (last past) t ht (inv .shape) (inv .mode) i)
     where
       go : recordAt ts t .phase ≡ Ready → Role n m r ts ks (last past) t
-          → Inv n m r (set ts t (tx (recordAt ts t .loc) p)) (set ks t (asks (taleAt ks t) a)) (last past)
+          → Inv n m r (set ts t (tx (recordAt ts t .loc) p)) (set ks t (askedFor (taleAt ks t) a)) (last past)
       go e (free f) =
           let h : Free n (m .glb) (last past) (recordAt ts t .loc) Ready (taleAt ks t) =
           subst (λ q. Free n (m .glb) (last past) (recordAt ts t .loc) q (taleAt ks t)) e (f .is-free) in
-          moved n m r ts ks past t ht i inv (m .glb) _ _ (f .put (recordAt ts t .loc) p (asks (taleAt ks t) a) (as-free (h .0) (h .1)))
+          moved n m r ts ks past t ht i inv (m .glb) _ _ (f .put (recordAt ts t .loc) p (askedFor (taleAt ks t) a) (as-free (h .0) (h .1)))
       go e (owner odd lock own others) =
           let h : Owner n m (last past) (recordAt ts t .loc) Ready (taleAt ks t) =
           subst (λ q. Owner n m (last past) (recordAt ts t .loc) q (taleAt ks t)) e own in
-          stays n m r ts ks past t ht i inv odd others (recordAt ts t .loc) p (asks (taleAt ks t) a) lock (as-owner (h .0) (h .1))
+          stays n m r ts ks past t ht i inv odd others (recordAt ts t .loc) p (askedFor (taleAt ks t) a) lock (as-owner (h .0) (h .1))
       go e (ender c odd end others) =
           absurd (subst (λ q. Ender (m .glb) (last past) (recordAt ts t .loc) q (taleAt ks t)) e end)

@@ -15,7 +15,7 @@ use Rattle.dtml.specs.declared.Recovery.{Recovery}
 use Rattle.dtml.specs.Store.{Memory, recordAt, tx}
 use Rattle.dtml.specs.Lines.{even}
 use Rattle.dtml.specs.Checks.{notIdle}
-use Rattle.dtml.specs.History.{Tale, taleAt, blank}
+use Rattle.dtml.specs.History.{Tale, taleAt, untold}
 use Rattle.dtml.proofs.Invariant.{Free, Owner, Lock, Ender, Each, EachBut, Mode, quiet, writing, sealed, healing, Shape}
 use Rattle.dtml.proofs.Words.{same-or-not, true-not-false}
 
@@ -25,12 +25,12 @@ module _ (ts : List Tx) (ks : List Tale) (t : ℕ) (x : Tx) (k : Tale) (P : ℕ 
   -- at the transaction itself
   pub set-here : t < length ts → t < length ks → P (x .loc) (x .phase) k
       → P (recordAt (set ts t x) t .loc) (recordAt (set ts t x) t .phase) (taleAt (set ks t k) t)
-  set-here a b h = rw (getD-set-same ts t x (tx 0 Fresh) a, getD-set-same ks t k blank b) h
+  set-here a b h = rw (getD-set-same ts t x (tx 0 Fresh) a, getD-set-same ks t k untold b) h
 
   -- at any other
   pub set-there : (u : ℕ) → (u ≡ t → ⊥) → P (recordAt ts u .loc) (recordAt ts u .phase) (taleAt ks u)
       → P (recordAt (set ts t x) u .loc) (recordAt (set ts t x) u .phase) (taleAt (set ks t k) u)
-  set-there u f h = rw (getD-set-other ts t u x (tx 0 Fresh) f, getD-set-other ks t u k blank f) h
+  set-there u f h = rw (getD-set-other ts t u x (tx 0 Fresh) f, getD-set-other ks t u k untold f) h
 
   pub set-each : t < length ts → t < length ks → P (x .loc) (x .phase) k → EachBut t ts ks P → Each (set ts t x) (set ks t k) P
   set-each a b h others u hu = go (same-or-not u t)

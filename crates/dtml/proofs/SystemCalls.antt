@@ -23,7 +23,7 @@ use Rattle.dtml.specs.Asked.{Healed}
 use Rattle.dtml.specs.Lines.{recoveryLine, stage, isLive, withGlb, withMarks, storeWord, flushWord, crashMemory, crashPhase, crashTx, crashTxs, anyMark}
 use Rattle.dtml.specs.Checks.{notIdle}
 use Rattle.dtml.specs.Calls.{upTo}
-use Rattle.dtml.specs.History.{Tale, taleAt, closes, blank}
+use Rattle.dtml.specs.History.{Tale, taleAt, closes, untold}
 use Rattle.dtml.proofs.Invariant.{Free, Owner, Clean, Dirty, Chosen, Heals, Still, Each, Mode, quiet, writing, sealed, healing, Shape, Inv}
 use Rattle.dtml.specs.Demands.{overlaid}
 use Rattle.dtml.proofs.Words.{same-or-not, true-not-false, pick-case}
@@ -156,7 +156,7 @@ module _ (n : ℕ) (ts : List Tx) (ks : List Tale) (l : List ℕ) where
     calm = λ x hx u. rw u at (inv .durable x hx);
     marks-in = inv .marks-in;
     mode =
-        healing refl tt (λ t ht. rw (List·getD-map crashTx ts t (tx 0 Fresh), List·getD-map closes ks t blank)
+        healing refl tt (λ t ht. rw (List·getD-map crashTx ts t (tx 0 Fresh), List·getD-map closes ks t untold)
         (still-crashed (recordAt ts t .phase) (taleAt ks t)));
   }
 

@@ -21,7 +21,7 @@ use Rattle.dtml.specs.Asked.{begin, read, write, commit, step, flush, cr
 use Rattle.dtml.specs.Lines.{lineAt, even, stage, isLive, crashPhase, crashTx, crashTxs}
 use Rattle.dtml.specs.Checks.{checks}
 use Rattle.dtml.specs.Calls.{ask, system, act}
-use Rattle.dtml.specs.History.{over, Tale, blank, begins, asks, askedWrite, closes, endsOn, told, withTale, Past, last, lastOf, laterAfter, taleAt, isE2, noted, World, tell, dawn, runs}
+use Rattle.dtml.specs.History.{over, Tale, untold, starting, askedFor, askedWrite, closes, endsOn, told, withTale, Past, last, lastOf, laterAfter, taleAt, isE2, noted, World, tell, dawn, runs}
 use Rattle.dtml.specs.Demands.{OutOf, Different}
 use Rattle.dtml.proofs.Invariant.{Free, Owner, Ender}
 use Rattle.dtml.proofs.Words.{same-or-not, true-not-false, pick-case}
@@ -114,8 +114,8 @@ set-once : (ks : List Tale) (t : ℕ) (k : Tale) → t < length ks → Different
 set-once ks t k ht d h u = go (same-or-not u t)
   where
     go : (u ≡ t) ⊎ (u ≡ t → ⊥) → Different (taleAt (set ks t k) u .entered)
-    go (inl e) = rw (e, getD-set-same ks t k blank ht) d
-    go (inr f) = rw (getD-set-other ks t u k blank f) (h u)
+    go (inl e) = rw (e, getD-set-same ks t k untold ht) d
+    go (inr f) = rw (getD-set-other ks t u k untold f) (h u)
 
 -- a record with its tale: at the transaction itself, and at any other
 set-behind : (p : Past) (ts : List Tx) (ks : List Tale) (t : ℕ) (x : Tx) (k : Tale) → t < length ts → t < length ks → (x .phase ≡ E3 → Behind p k)
@@ -124,8 +124,8 @@ set-behind : (p : Past) (ts : List Tx) (ks : List Tale) (t : ℕ) (x : Tx) (k : 
 set-behind p ts ks t x k ht hk here there u hu = go (same-or-not u t)
   where
     go : (u ≡ t) ⊎ (u ≡ t → ⊥) → recordAt (set ts t x) u .phase ≡ E3 → Behind p (taleAt (set ks t k) u)
-    go (inl e) = rw (e, getD-set-same ts t x (tx 0 Fresh) ht, getD-set-same ks t k blank hk) here
-    go (inr f) = rw (getD-set-other ts t u x (tx 0 Fresh) f, getD-set-other ks t u k blank f) (there u hu f)
+    go (inl e) = rw (e, getD-set-same ts t x (tx 0 Fresh) ht, getD-set-same ks t k untold hk) here
+    go (inr f) = rw (getD-set-other ts t u x (tx 0 Fresh) f, getD-set-other ks t u k untold f) (there u hu f)
 
 -- ---- a call that is carried out
 
@@ -225,14 +225,14 @@ module _ (n : ℕ) (w : World) (inv : InvW n w) (h : TalesW w) where
 
   pub act-tales : (c : Call) → Passes (checks (w .store) c) → TalesW (acted w c)
   unfolding acted act ask noted system crashTxs
-  act-tales (on t begin) p = invoked t B1 begins (p .1 .0) tt (λ e. cc)
-  act-tales (on t (read x)) p = invoked t (R1 x) (asks (taleAt (w .past .tales) t) (read x)) (p .1 .0) (h .once t) (λ e. cc)
-  act-tales (on t (write x v)) p = invoked t (W1 x v) (asks (taleAt (w .past .tales) t) (write x v)) (p .1 .0) (h .once t) (λ e. cc)
-  act-tales (on t commit) p = invoked t E1 (asks (taleAt (w .past .tales) t) commit) (p .1 .0) (h .once t) (λ e. cc)
+  act-tales (on t begin) p = invoked t B1 starting (p .1 .0) tt (λ e. cc)
+  act-tales (on t (read x)) p = invoked t (R1 x) (askedFor (taleAt (w .past .tales) t) (read x)) (p .1 .0) (h .once t) (λ e. cc)
+  act-tales (on t (write x v)) p = invoked t (W1 x v) (askedFor (taleAt (w .past .tales) t) (write x v)) (p .1 .0) (h .once t) (λ e. cc)
+  act-tales (on t commit) p = invoked t E1 (askedFor (taleAt (w .past .tales) t) commit) (p .1 .0) (h .once t) (λ e. cc)
   act-tales (on t step) p = stepped t p
   act-tales (sys (flush x)) p = record { once = h .once; behind = h .behind }
   act-tales (sys crash) p = record {
-    once = λ t. rw (List·getD-map closes (w .past .tales) t blank) (h .once t);
+    once = λ t. rw (List·getD-map closes (w .past .tales) t untold) (h .once t);
     behind = λ t _ e. absurd (crash-E3 t e);
   }
   act-tales (sys recover) p = record { once = h .once; behind = h .behind }
@@ -245,7 +245,7 @@ unfolding runs
 runs-tales n w [] inv h = h
 runs-tales n w (c ∷ cs) inv h = runs-tales n (tell w c) cs (tell-inv n w c inv) (tell-keeps TalesW w c h (act-tales n w inv h c))
 
-all-blank : (n t : ℕ) → taleAt (replicate n blank) t ≡ blank
+all-blank : (n t : ℕ) → taleAt (replicate n untold) t ≡ untold
 all-blank zero t = refl
 all-blank (suc n) zero = refl
 all-blank (suc n) (suc t) = all-blank n t

@@ -20,7 +20,7 @@ use Rattle.dtml.specs.Store.{Store, size, recordAt}
 use Rattle.dtml.specs.Asked.{begin, read, write, commit, step, flush, crash, recover, recoverUpTo, Call, on, sys}
 use Rattle.dtml.specs.Lines.{stage}
 use Rattle.dtml.specs.First.{anyOf}
-use Rattle.dtml.specs.Checks.{unfitRows, phasePast, unfitRecovery, unfitTx, unfitTxs, unfitBeside, unfitMemory, unfit, notIdle, isNew, isWaiting, isAtLine}
+use Rattle.dtml.specs.Checks.{unfitRows, phasePast, unfitRecovery, unfitTx, unfitTxs, unfitBeside, unfitMemory, unfit, notIdle, isFresh, isReady, isAtLine}
 use Rattle.dtml.specs.Rules.{CallNames, by-read, by-write, by-flush, WrongLength, pers-differs, old-differs, no-word, above-256, not-64, Names, at-R1, at-W1, at-W2, at-W3, at-W4, at-W5, at-W6, at-W7, RecoveryNames, at-C3, at-C4, at-C5, Unfit, lengths, mark-past, glb-above, loc-above, phase-past, recovery-past, C2-unmarked, NoLine}
 use Rattle.dtml.proofs.Words.{true-or-false, true-not-false, is-idle, idle-is, none-marked}
 use Rattle.dtml.proofs.Asks.{new-fresh, waiting-ready}
@@ -65,16 +65,16 @@ busy r = record { holds = λ e q. true-not-false e (is-idle r q); fails = λ e f
 pub idle : (r : Recovery) → Tests (not (notIdle r)) (r ≡ Idle)
 idle r = record { holds = λ e. idle-is r (not-true (notIdle r) e); fails = λ e q. true-not-false (not-false (notIdle r) e) (is-idle r q) }
 
-pub not-fresh : (p : Phase) → Tests (not (isNew (stage p))) (p ≡ Fresh → ⊥)
+pub not-fresh : (p : Phase) → Tests (not (isFresh (stage p))) (p ≡ Fresh → ⊥)
 not-fresh p = record {
-  holds = λ e q. true-not-false (ap (λ x. isNew (stage x)) q) (not-true (isNew (stage p)) e);
-  fails = λ e f. f (new-fresh p (not-false (isNew (stage p)) e));
+  holds = λ e q. true-not-false (ap (λ x. isFresh (stage x)) q) (not-true (isFresh (stage p)) e);
+  fails = λ e f. f (new-fresh p (not-false (isFresh (stage p)) e));
 }
 
-pub not-ready : (p : Phase) → Tests (not (isWaiting (stage p))) (p ≡ Ready → ⊥)
+pub not-ready : (p : Phase) → Tests (not (isReady (stage p))) (p ≡ Ready → ⊥)
 not-ready p = record {
-  holds = λ e q. true-not-false (ap (λ x. isWaiting (stage x)) q) (not-true (isWaiting (stage p)) e);
-  fails = λ e f. f (waiting-ready p (not-false (isWaiting (stage p)) e));
+  holds = λ e q. true-not-false (ap (λ x. isReady (stage x)) q) (not-true (isReady (stage p)) e);
+  fails = λ e f. f (waiting-ready p (not-false (isReady (stage p)) e));
 }
 
 is-line : (p : Phase) → isAtLine (stage p) ≡ false → NoLine p

@@ -22,7 +22,7 @@ use Rattle.dtml.specs.Lines.{lineAt, recoveryLine, even, anyMark}
 use Rattle.dtml.specs.First.{Check, first}
 use Rattle.dtml.specs.Checks.{checks, notIdle}
 use Rattle.dtml.specs.Calls.{ask, upTo, system, refused, act, call}
-use Rattle.dtml.specs.History.{Tale, Past, last, taleAt, blank, note, noted, World, tell, dawn}
+use Rattle.dtml.specs.History.{Tale, Past, last, taleAt, untold, note, noted, World, tell, dawn}
 use Rattle.dtml.proofs.Invariant.{Inv, quiet}
 use Rattle.dtml.proofs.Words.{true-not-false, pick-case, none-marked}
 use Rattle.dtml.proofs.Fit.{up-to-keeps}
@@ -266,7 +266,7 @@ dawn-inv n some few = record {
   marks-in = λ x hx. unmarked x;
   mode =
       quiet refl refl refl
-      (λ t ht. rw (getD-replicate 64 t (tx 0 Fresh) (tx 0 Fresh) ht, getD-replicate 64 t blank blank ht) refl);
+      (λ t ht. rw (getD-replicate 64 t (tx 0 Fresh) (tx 0 Fresh) ht, getD-replicate 64 t untold untold ht) refl);
 }
   where
     unmarked : (x : ℕ) → isMarked (replicate 4 0) x ≡ false

@@ -9,7 +9,7 @@ use Rattle.dtml.specs.declared.Tx.{Tx}
 use Rattle.dtml.specs.declared.Phase.{Phase}
 use Rattle.dtml.specs.declared.Phase.the-variants.{Fresh, Ready, Committed, Aborted, B1, B2, R1, R2, W1, W2, W3, W4, W5, W6, W7, E1, E2, E3}
 use Rattle.dtml.specs.declared.Stage.{Stage}
-use Rattle.dtml.specs.declared.Stage.the-variants.{New, Waiting, AtLine, Over}
+use Rattle.dtml.specs.declared.Stage.the-variants as Stage
 use Rattle.dtml.specs.declared.Recovery.{Recovery}
 use Rattle.dtml.specs.declared.Recovery.the-variants.{Idle, C1, C2, C3, C4, C5, C6}
 use Rattle.dtml.specs.Store.{Memory, Store, size, recordAt}
@@ -114,30 +114,30 @@ notIdle (C4 w v) = true
 notIdle (C5 w v) = true
 notIdle C6 = true
 
-abbrev pub isNew : Stage → Bool
-isNew New = true
-isNew Waiting = false
-isNew AtLine = false
-isNew Over = false
+abbrev pub isFresh : Stage → Bool
+isFresh Stage.Fresh = true
+isFresh Stage.Ready = false
+isFresh Stage.AtLine = false
+isFresh Stage.Over = false
 
-abbrev pub isWaiting : Stage → Bool
-isWaiting New = false
-isWaiting Waiting = true
-isWaiting AtLine = false
-isWaiting Over = false
+abbrev pub isReady : Stage → Bool
+isReady Stage.Fresh = false
+isReady Stage.Ready = true
+isReady Stage.AtLine = false
+isReady Stage.Over = false
 
 abbrev pub isAtLine : Stage → Bool
-isAtLine New = false
-isAtLine Waiting = false
-isAtLine AtLine = true
-isAtLine Over = false
+isAtLine Stage.Fresh = false
+isAtLine Stage.Ready = false
+isAtLine Stage.AtLine = true
+isAtLine Stage.Over = false
 
 -- the checks of a record's call that follow 9 and 11
 abbrev pub askChecks : ℕ → Recovery → Tx → Ask → List Check
-askChecks n r t begin = notIdle r ⇒ 12 ∷ not (isNew (stage (t .phase))) ⇒ 13 ∷ []
-askChecks n r t (read w) = leb n w ⇒ 10 ∷ notIdle r ⇒ 12 ∷ not (isWaiting (stage (t .phase))) ⇒ 14 ∷ []
-askChecks n r t (write w v) = leb n w ⇒ 10 ∷ notIdle r ⇒ 12 ∷ not (isWaiting (stage (t .phase))) ⇒ 14 ∷ []
-askChecks n r t commit = notIdle r ⇒ 12 ∷ not (isWaiting (stage (t .phase))) ⇒ 14 ∷ []
+askChecks n r t begin = notIdle r ⇒ 12 ∷ not (isFresh (stage (t .phase))) ⇒ 13 ∷ []
+askChecks n r t (read w) = leb n w ⇒ 10 ∷ notIdle r ⇒ 12 ∷ not (isReady (stage (t .phase))) ⇒ 14 ∷ []
+askChecks n r t (write w v) = leb n w ⇒ 10 ∷ notIdle r ⇒ 12 ∷ not (isReady (stage (t .phase))) ⇒ 14 ∷ []
+askChecks n r t commit = notIdle r ⇒ 12 ∷ not (isReady (stage (t .phase))) ⇒ 14 ∷ []
 askChecks n r t step = notIdle r ⇒ 12 ∷ not (isAtLine (stage (t .phase))) ⇒ 15 ∷ []
 
 -- the checks of the other calls that follow 9

@@ -46,14 +46,14 @@ pub record Tale : Type 0 where
   -- it has begun, and neither ended nor done its E2
   pub live : Bool
 
-abbrev pub blank : Tale
-blank = record { asked = begin; start = []; wrote = []; entered = []; live = false }
+abbrev pub untold : Tale
+untold = record { asked = begin; start = []; wrote = []; entered = []; live = false }
 
-abbrev pub begins : Tale
-begins = record { asked = begin; start = []; wrote = []; entered = []; live = true }
+abbrev pub starting : Tale
+starting = record { asked = begin; start = []; wrote = []; entered = []; live = true }
 
-abbrev pub asks : Tale → Ask → Tale
-asks g a = record { asked = a; start = g .start; wrote = g .wrote; entered = g .entered; live = g .live }
+abbrev pub askedFor : Tale → Ask → Tale
+askedFor g a = record { asked = a; start = g .start; wrote = g .wrote; entered = g .entered; live = g .live }
 
 abbrev pub starts : Tale → List ℕ → Tale
 starts g m = record { asked = g .asked; start = m; wrote = g .wrote; entered = g .entered; live = g .live }
@@ -121,7 +121,7 @@ abbrev pub last : Past → List ℕ
 last p = lastOf (p .first) (p .later)
 
 abbrev pub taleAt : List Tale → ℕ → Tale
-taleAt gs t = getD gs t blank
+taleAt gs t = getD gs t untold
 
 -- the line that commits a writer
 abbrev pub isE2 : Phase → Bool
@@ -181,10 +181,10 @@ crashTold p = record {
 
 -- the past after a call that was carried out, from the line at which the record stood and the answer
 unfoldable pub noted : Past → Phase → Call → Reply → Past
-noted p l (on t begin) a = withTale p t begins
-noted p l (on t (read w)) a = withTale p t (asks (taleAt (p .tales) t) (read w))
-noted p l (on t (write w v)) a = withTale p t (asks (taleAt (p .tales) t) (write w v))
-noted p l (on t commit) a = withTale p t (asks (taleAt (p .tales) t) commit)
+noted p l (on t begin) a = withTale p t starting
+noted p l (on t (read w)) a = withTale p t (askedFor (taleAt (p .tales) t) (read w))
+noted p l (on t (write w v)) a = withTale p t (askedFor (taleAt (p .tales) t) (write w v))
+noted p l (on t commit) a = withTale p t (askedFor (taleAt (p .tales) t) commit)
 noted p l (on t step) a = lineTold p t l a
 noted p l (sys (flush w)) a = p
 noted p l (sys crash) a = crashTold p
@@ -211,7 +211,7 @@ tell w c = record {
 unfoldable pub dawn : ℕ → World
 dawn n = record {
   store = fresh n;
-  past = record { first = replicate n 0; later = []; tales = replicate 64 blank; crashes = 0; lines = 0; cut = 0 };
+  past = record { first = replicate n 0; later = []; tales = replicate 64 untold; crashes = 0; lines = 0; cut = 0 };
 }
 
 unfoldable pub runs : World → List Call → World

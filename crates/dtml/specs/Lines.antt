@@ -9,7 +9,7 @@ use Rattle.dtml.specs.declared.Tx.{Tx}
 use Rattle.dtml.specs.declared.Phase.{Phase}
 use Rattle.dtml.specs.declared.Phase.the-variants.{Fresh, Ready, Committed, Aborted, B1, B2, R1, R2, W1, W2, W3, W4, W5, W6, W7, E1, E2, E3}
 use Rattle.dtml.specs.declared.Stage.{Stage}
-use Rattle.dtml.specs.declared.Stage.the-variants.{New, Waiting, AtLine, Over}
+use Rattle.dtml.specs.declared.Stage.the-variants as Stage
 use Rattle.dtml.specs.declared.Recovery.{Recovery}
 use Rattle.dtml.specs.declared.Recovery.the-variants.{Idle, C1, C2, C3, C4, C5, C6}
 use Rattle.dtml.specs.Table.{says}
@@ -47,24 +47,24 @@ flushWord m w = memory (m .vol) (flushOf (m .vol) (m .pers) w) (m .old) (m .mark
 
 -- fresh, ready, committed and aborted records have no line to do
 abbrev pub stage : Phase → Stage
-stage Fresh = New
-stage Ready = Waiting
-stage Committed = Over
-stage Aborted = Over
-stage B1 = AtLine
-stage B2 = AtLine
-stage (R1 w) = AtLine
-stage (R2 v) = AtLine
-stage (W1 w v) = AtLine
-stage (W2 w v) = AtLine
-stage (W3 w v) = AtLine
-stage (W4 w v) = AtLine
-stage (W5 w v) = AtLine
-stage (W6 w v) = AtLine
-stage (W7 w) = AtLine
-stage E1 = AtLine
-stage E2 = AtLine
-stage E3 = AtLine
+stage Fresh = Stage.Fresh
+stage Ready = Stage.Ready
+stage Committed = Stage.Over
+stage Aborted = Stage.Over
+stage B1 = Stage.AtLine
+stage B2 = Stage.AtLine
+stage (R1 w) = Stage.AtLine
+stage (R2 v) = Stage.AtLine
+stage (W1 w v) = Stage.AtLine
+stage (W2 w v) = Stage.AtLine
+stage (W3 w v) = Stage.AtLine
+stage (W4 w v) = Stage.AtLine
+stage (W5 w v) = Stage.AtLine
+stage (W6 w v) = Stage.AtLine
+stage (W7 w) = Stage.AtLine
+stage E1 = Stage.AtLine
+stage E2 = Stage.AtLine
+stage E3 = Stage.AtLine
 
 -- to the next line, with nothing to report
 abbrev pub to : Memory → ℕ → Phase → Did
@@ -130,10 +130,10 @@ crashMemory m = memory (m .pers) (m .pers) (m .old) (m .marks) 0
 
 -- each record that is not fresh, committed or aborted becomes aborted
 abbrev pub isLive : Stage → Bool
-isLive New = false
-isLive Waiting = true
-isLive AtLine = true
-isLive Over = false
+isLive Stage.Fresh = false
+isLive Stage.Ready = true
+isLive Stage.AtLine = true
+isLive Stage.Over = false
 
 abbrev pub crashPhase : Phase → Phase
 crashPhase p = pick (isLive (stage p)) Aborted p

@@ -24,8 +24,8 @@ pub enum Phase {
 
 // What the checks and a crash ask of a phase.
 pub enum Stage {
-    New,
-    Waiting,
+    Fresh,
+    Ready,
     AtLine,
     Over,
 }

@@ -21,7 +21,7 @@ use Rattle.dtml.specs.Store.{Memory, tx, size}
 use Rattle.dtml.specs.Asked.{did}
 use Rattle.dtml.specs.Lines.{stage}
 use Rattle.dtml.specs.First.{anyOf}
-use Rattle.dtml.specs.Checks.{unfitMemory, unfitOne, unfitTx, notIdle, isNew, isWaiting}
+use Rattle.dtml.specs.Checks.{unfitMemory, unfitOne, unfitTx, notIdle, isFresh, isReady}
 use Rattle.dtml.specs.Calls.{ask}
 use Rattle.dtml.specs.Handed.{no-turn, a-turn, callOne}
 use Rattle.turn.specs.declared.Turn.the-variants.{Refused, Went}
@@ -118,30 +118,30 @@ named true b t m = refl
 named false b t m = staged b NotReady t m
 
 pub begins : (m : Memory) (r : Recovery) (t : Tx) → Fit m r t
-    → turnedOf (pick (isNew (stage (t .phase))) (Went (Taken 0) (tx (t .loc) B1)) (Refused NotFresh)) m ≡ callOne m r t 0 Begin
+    → turnedOf (pick (isFresh (stage (t .phase))) (Went (Taken 0) (tx (t .loc) B1)) (Refused NotFresh)) m ≡ callOne m r t 0 Begin
 unfolding callOne unfitOne ask
 begins m r t f =
-    rw (idle-is r (f .idle), f .beside, f .own) (staged (isNew (stage (t .phase))) NotFresh _ m)
+    rw (idle-is r (f .idle), f .beside, f .own) (staged (isFresh (stage (t .phase))) NotFresh _ m)
 
 pub reads : (m : Memory) (r : Recovery) (t : Tx) (w : ℕ) → Fit m r t
-    → turnedOf (pick (leb (size m) w) (Refused NoWord) (pick (isWaiting (stage (t .phase))) (Went (Taken 0) (tx (t .loc) (R1 w))) (Refused NotReady))) m
+    → turnedOf (pick (leb (size m) w) (Refused NoWord) (pick (isReady (stage (t .phase))) (Went (Taken 0) (tx (t .loc) (R1 w))) (Refused NotReady))) m
     ≡ callOne m r t 0 (Read w)
 unfolding callOne unfitOne ask
 reads m r t w f =
-    rw (idle-is r (f .idle), f .beside, f .own) (named (leb (size m) w) (isWaiting (stage (t .phase))) _ m)
+    rw (idle-is r (f .idle), f .beside, f .own) (named (leb (size m) w) (isReady (stage (t .phase))) _ m)
 
 pub writes : (m : Memory) (r : Recovery) (t : Tx) (w v : ℕ) → Fit m r t
-    → turnedOf (pick (leb (size m) w) (Refused NoWord) (pick (isWaiting (stage (t .phase))) (Went (Taken 0) (tx (t .loc) (W1 w v))) (Refused NotReady))) m
+    → turnedOf (pick (leb (size m) w) (Refused NoWord) (pick (isReady (stage (t .phase))) (Went (Taken 0) (tx (t .loc) (W1 w v))) (Refused NotReady))) m
     ≡ callOne m r t 0 (Write w v)
 unfolding callOne unfitOne ask
 writes m r t w v f =
-    rw (idle-is r (f .idle), f .beside, f .own) (named (leb (size m) w) (isWaiting (stage (t .phase))) _ m)
+    rw (idle-is r (f .idle), f .beside, f .own) (named (leb (size m) w) (isReady (stage (t .phase))) _ m)
 
 pub commits : (m : Memory) (r : Recovery) (t : Tx) → Fit m r t
-    → turnedOf (pick (isWaiting (stage (t .phase))) (Went (Taken 0) (tx (t .loc) E1)) (Refused NotReady)) m ≡ callOne m r t 0 Commit
+    → turnedOf (pick (isReady (stage (t .phase))) (Went (Taken 0) (tx (t .loc) E1)) (Refused NotReady)) m ≡ callOne m r t 0 Commit
 unfolding callOne unfitOne ask
 commits m r t f =
-    rw (idle-is r (f .idle), f .beside, f .own) (staged (isWaiting (stage (t .phase))) NotReady _ m)
+    rw (idle-is r (f .idle), f .beside, f .own) (staged (isReady (stage (t .phase))) NotReady _ m)
 
 pub steps : (m : Memory) (r : Recovery) (t : Tx) → Fit m r t → stepOf m t ≡ callOne m r t 0 Step
 unfolding callOne unfitOne ask

@@ -4,14 +4,14 @@ use dtml::Recovery;
 use dtml::Stage;
 ghost use mathlib.Core.Path.{_≡_};
 ghost use Rattle.dtml.specs.Lines.{stage as stageOf, isLive};
-ghost use Rattle.dtml.specs.Checks.{notIdle, isNew, isWaiting, isAtLine};
+ghost use Rattle.dtml.specs.Checks.{notIdle, isFresh, isReady};
 
 pub fn stage(p: Phase) -> Stage
     ensures { λ r. ⌜ r ≡ stageOf p ⌝ }
 {
     match p {
-        Phase::Fresh => Stage::New,
-        Phase::Ready => Stage::Waiting,
+        Phase::Fresh => Stage::Fresh,
+        Phase::Ready => Stage::Ready,
         Phase::Committed => Stage::Over,
         Phase::Aborted => Stage::Over,
         Phase::B1 => Stage::AtLine,
@@ -31,35 +31,24 @@ pub fn stage(p: Phase) -> Stage
     }
 }
 
-pub fn is_new(s: Stage) -> bool
-    ensures { λ r. ⌜ r ≡ isNew s ⌝ }
+pub fn is_fresh(s: Stage) -> bool
+    ensures { λ r. ⌜ r ≡ isFresh s ⌝ }
 {
     match s {
-        Stage::New => true,
-        Stage::Waiting => false,
+        Stage::Fresh => true,
+        Stage::Ready => false,
         Stage::AtLine => false,
         Stage::Over => false,
     }
 }
 
-pub fn is_waiting(s: Stage) -> bool
-    ensures { λ r. ⌜ r ≡ isWaiting s ⌝ }
+pub fn is_ready(s: Stage) -> bool
+    ensures { λ r. ⌜ r ≡ isReady s ⌝ }
 {
     match s {
-        Stage::New => false,
-        Stage::Waiting => true,
+        Stage::Fresh => false,
+        Stage::Ready => true,
         Stage::AtLine => false,
-        Stage::Over => false,
-    }
-}
-
-pub fn is_at_line(s: Stage) -> bool
-    ensures { λ r. ⌜ r ≡ isAtLine s ⌝ }
-{
-    match s {
-        Stage::New => false,
-        Stage::Waiting => false,
-        Stage::AtLine => true,
         Stage::Over => false,
     }
 }
@@ -68,8 +57,8 @@ pub fn is_live(s: Stage) -> bool
     ensures { λ r. ⌜ r ≡ isLive s ⌝ }
 {
     match s {
-        Stage::New => false,
-        Stage::Waiting => true,
+        Stage::Fresh => false,
+        Stage::Ready => true,
         Stage::AtLine => true,
         Stage::Over => false,
     }

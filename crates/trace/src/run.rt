@@ -379,6 +379,16 @@ fn turn(
     }
 }
 
+fn all_done(course: Course, recovery: Recovery, txs: [Tx; 64]) -> Reached
+    ensures { λ r. ⌜ r ≡ record { course = course; recovery = recovery; txs = txs } ⌝ }
+{
+    Reached {
+        course,
+        recovery,
+        txs,
+    }
+}
+
 // The loop holds the reader, which moves on past each record.
 fn go_through(
     trace: &[u8],
@@ -424,11 +434,7 @@ fn go_through(
             }
         }
     }
-    Reached {
-        course,
-        recovery,
-        txs: rows,
-    }
+    all_done(course, recovery, rows)
 }
 
 pub(crate) fn run(

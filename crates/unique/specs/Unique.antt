@@ -63,9 +63,8 @@ pub record UniqueOutcomes {M : Type 1} (𝓤 : URA M) : Type 2 where
   pub marks-stands-from : Settled marks.stands_from.ended (marks.stands_from.clauses 𝓤)
   -- what the calls share
   pub stages-stage : Settled stages.stage.ended (stages.stage.clauses 𝓤)
-  pub stages-is-new : Settled stages.is_new.ended (stages.is_new.clauses 𝓤)
-  pub stages-is-waiting : Settled stages.is_waiting.ended (stages.is_waiting.clauses 𝓤)
-  pub stages-is-at-line : Settled stages.is_at_line.ended (stages.is_at_line.clauses 𝓤)
+  pub stages-is-fresh : Settled stages.is_fresh.ended (stages.is_fresh.clauses 𝓤)
+  pub stages-is-ready : Settled stages.is_ready.ended (stages.is_ready.clauses 𝓤)
   pub stages-is-live : Settled stages.is_live.ended (stages.is_live.clauses 𝓤)
   pub stages-not-idle : Settled stages.not_idle.ended (stages.not_idle.clauses 𝓤)
   pub parts-number : Settled parts.answer.number.ended (parts.answer.number.clauses 𝓤)

@@ -6,22 +6,22 @@ use Rattle.asks.proofs.begin.Tie as tie
 stage-requires : tie.Need-stage-requires
 stage-requires c κs = search needs
 
-is-new-requires : tie.Need-is-new-requires
-is-new-requires c κs = search needs
+is-fresh-requires : tie.Need-is-fresh-requires
+is-fresh-requires c κs = search needs
 
 to-requires : tie.Need-to-requires
 to-requires c κs = search needs
 
 returns : tie.Need-returns
-returns c = rw (c .to .ensures, ← (c .before .before .before .stage .ensures), ← (c .before .before .is-new .ensures), c .before .if1 .taken)
+returns c = rw (c .to .ensures, ← (c .before .before .before .stage .ensures), ← (c .before .before .is-fresh .ensures), c .before .if1 .taken)
 
 refused-requires : tie.Need-refused-requires
 refused-requires c κs = search needs
 
 returns-2 : tie.Need-returns-2
-returns-2 c = rw (c .refused .ensures, ← (c .before .before .before .stage .ensures), ← (c .before .before .is-new .ensures), c .before .if1 .left)
+returns-2 c = rw (c .refused .ensures, ← (c .before .before .before .stage .ensures), ← (c .before .before .is-fresh .ensures), c .before .if1 .left)
 
 pub begin-spec : {M : Type 1} → statement M
 begin-spec =
     tie.close
-    (tie.spec stage-requires is-new-requires to-requires returns refused-requires returns-2)
+    (tie.spec stage-requires is-fresh-requires to-requires returns refused-requires returns-2)

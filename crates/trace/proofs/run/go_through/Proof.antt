@@ -110,6 +110,9 @@ use Rattle.trace.proofs.run.turn.Met as turn-thm
 use Rattle.trace.proofs.run.crash_txs.Symbol as crash-def
 use Rattle.trace.proofs.run.crash_txs.Symbol.{name as #crash-txs}
 use Rattle.trace.proofs.run.crash_txs.Met as crash-thm
+use Rattle.trace.proofs.run.all_done.Symbol as reached-def
+use Rattle.trace.proofs.run.all_done.Symbol.{name as #all-done}
+use Rattle.trace.proofs.run.all_done.Met as reached-thm
 use Rattle.trace.proofs.run.go_through.Key.{name as #run}
 use Rattle.trace.proofs.run.go_through as f
 use Rattle.trace.proofs.run.go_through.Statement as stated
@@ -126,7 +129,7 @@ abbrev First : Callee (Unit {0}) (Unit {0})
 First = record { Rs = []; Q = C′.the-row; vals = LL.vals C′.the-type CL.the-laws; tells = LL.tells C′.the-type CL.the-laws; says = λ _ _ r _. r ≡ onCourse 0 (totals 0 0 0 0 0) 0 }
 
 abbrev Idles : Callee (Unit {0}) (Unit {0})
-Idles = record { Rs = []; Q = Y.the-row; vals = EL.vals Y.the-type Y′.the-laws; tells = EL.tells Y.the-type Y′.the-laws tt; says = λ _ _ r _. r ≡ Idle }
+Idles = record { Rs = []; Q = Y.the-row; vals = EL.vals Y.the-type Y′.the-laws; tells = EL.tells Y.the-type Y′.the-laws; says = λ _ _ r _. r ≡ Idle }
 
 abbrev Blank : Callee (Unit {0}) (Unit {0})
 Blank = record { Rs = []; Q = Records; vals = λ xs. array-of xs ∷ []; tells = array-tells X.the-row vals (LL.tells X.the-type X′.the-laws) 64; says = λ _ _ r _. r ≡ replicate 64 (txOf 0 Fresh) }
@@ -136,6 +139,9 @@ SlotOf = record { Rs = I.the-row ∷ []; Q = usize; vals = uint-vals w64; tells 
 
 abbrev Crash : Callee (Unit {0}) (Unit {0})
 Crash = record { Rs = Records ∷ []; Q = Records; vals = λ xs. array-of xs ∷ []; tells = array-tells X.the-row vals (LL.tells X.the-type X′.the-laws) 64; says = λ _ a r _. r ≡ crashTxs (a .0) }
+
+abbrev Reaches : Callee (Unit {0}) (Unit {0})
+Reaches = record { Rs = C′.the-row ∷ Y.the-row ∷ Records ∷ []; Q = P′.the-row; vals = LL.vals P′.the-type PL.the-laws; tells = LL.tells P′.the-type PL.the-laws; says = λ _ a r _. r ≡ record { course = a .0; recovery = a .1 .0; txs = a .1 .1 .0 } }
 
 module _ (s : RefT (List ℕ)) (z : Five) where
   -- what stands at the head of the loop
@@ -278,15 +284,13 @@ module _ {M : Type 1} (𝓤 : URA M) (H : Heap 𝓤) (A : Atoms 𝓤) (W : Given
   abbrev reached : State s z → Reached
   reached st = record { course = st .course; recovery = st .recovery; txs = st .rows }
 
-  abbrev mach-reached : Reached → Val
-  mach-reached x = only (LL.vals P′.the-type PL.the-laws x)
-
-  exits : (st : State s z) (u : Val) → Is P′.the-row (reached st) (u ∷ []) → st .course .going ≡ false
+  exits : (st : State s z) (r : Reached) (u : Val) → Is P′.the-row r (u ∷ []) → r ≡ reached st → st .course .going ≡ false
       → ent 𝓤 (⋆ 𝓤 H A (All z (st .w) ∷ ‵ (Held-trace κ q s) ∷ [])) (Post u)
-  exits st u is off =
+  exits st r u is e off =
       qed W (All z (st .w) ∷ ‵ (Held-trace κ q s) ∷ []) ∵
-      suffices ! _ (ends-at 𝓤 H A f.ended stayed (f.clauses 𝓤 H A mem′ run) W y u (reached st) (tt, (st .w .0, (st .w .1 .0, (st .w .1 .1 .0, (st .w .1 .1 .1 .0, (out (st .w), tt))))))
-      (tt, (st .fit .0, (st .fit .1 .0, (st .fit .1 .1 .0, (tt, (st .fit .1 .1 .1, tt))))))) $ says ! (through (st .course) (st .loop) (st .ended off .0) (st .ended off .1)) $
+      suffices ! _ (ends-at 𝓤 H A f.ended stayed (f.clauses 𝓤 H A mem′ run) W y u r (tt, (st .w .0, (st .w .1 .0, (st .w .1 .1 .0, (st .w .1 .1 .1 .0, (out (st .w), tt))))))
+      (tt, (st .fit .0, (st .fit .1 .0, (st .fit .1 .1 .0, (tt, (st .fit .1 .1 .1, tt))))))) $
+      says ! (subst (λ (x : Reached). Through (doneOf (length (now (z .v .x))) (scriptOf (now s))) x (mem (st .w) (x .course .glb)) (now (z .t .x)) (out (st .w))) (sym e) (through (st .course) (st .loop) (st .ended off .0) (st .ended off .1))) $
       split ! $ move ! (1 ∷ []) $ split ! $ move ! (1 ∷ []) $ split ! $ move ! (1 ∷ []) $ split ! $
       -- [the marks; out; old; pers; vol; the trace]
       move ! (1 ∷ []) $ fsplit ! $ nothing ! $ move ! (1 ∷ 0 ∷ []) $ fjoin ! $
@@ -295,7 +299,7 @@ module _ {M : Type 1} (𝓤 : URA M) (H : Heap 𝓤) (A : Atoms 𝓤) (W : Given
       move ! (5 ∷ []) $ fsplit ! $ move ! (0 ∷ 2 ∷ []) $ fjoin ! $ nothing ! $ fjoin ! $ move ! (6 ∷ []) $ fsplit ! $
       -- [the trace's token; the trace; what is owned; vol's token; pers's; old's; the marks'; out's]
       nothing ! $ move ! (8 ∷ 0 ∷ []) $ join ! $ move ! (7 ∷ 0 ∷ []) $ join ! $ move ! (6 ∷ 0 ∷ []) $ join ! $ move ! (5 ∷ 0 ∷ []) $ join ! $ move ! (4 ∷ 0 ∷ []) $ join ! $ move ! (1 ∷ 0 ∷ []) $ join ! $ keep ! (0 ∷ 2 ∷ []) $ frame ! $
-      owned ! P′.the-row (Is P′.the-row) (LL.makes P′.the-type PL.the-plain 𝓤 H A) (reached st) (u ∷ []) is $ move ! (1 ∷ 0 ∷ []) $ done !
+      owned ! P′.the-row (Is P′.the-row) (LL.makes P′.the-type PL.the-plain 𝓤 H A) r (u ∷ []) is $ move ! (1 ∷ 0 ∷ []) $ done !
 
   reader-ok : (d : Reader) → d .trace ≡ s → d .at < 2 ^ 64 → Holds (hasTy (T′.mir erased) (mach κ d)) × WT (mach κ d)
   reader-ok d same fits = LL.lawful (T.the-type (record { mir = erased; lft = κ })) (T′.the-laws (record { mir = erased; lft = κ })) 𝓤 H A W .typed d _
@@ -335,7 +339,7 @@ module _ {M : Type 1} (𝓤 : URA M) (H : Heap 𝓤) (A : Atoms 𝓤) (W : Given
 
   module _ (𝓣 : Tables 𝓤 H) (fm : FmC 𝓤 H (W .laws) (𝓣 .C)) (known-first : Triple 𝓤 (𝓣 .C #first) (ByValue First 𝓤 H A)) (known-idle : Triple 𝓤 (𝓣 .C #idle) (ByValue Idles 𝓤 H A)) (known-blank : Triple 𝓤 (𝓣 .C #blank) (ByValue Blank 𝓤 H A))
       (known-next : Triple 𝓤 (𝓣 .C #next) (promised 𝓤 H A next.ended Nexts)) (known-slot : Triple 𝓤 (𝓣 .C #slot-of) (ByValue SlotOf 𝓤 H A))
-      (known-turn : Triple 𝓤 (𝓣 .C #turn) (asked 𝓤 H A turn.ended Asks Turns-say)) (known-crash : Triple 𝓤 (𝓣 .C #crash-txs) (ByValue Crash 𝓤 H A)) where
+      (known-turn : Triple 𝓤 (𝓣 .C #turn) (asked 𝓤 H A turn.ended Asks Turns-say)) (known-crash : Triple 𝓤 (𝓣 .C #crash-txs) (ByValue Crash 𝓤 H A)) (known-reached : Triple 𝓤 (𝓣 .C #all-done) (ByValue Reaches 𝓤 H A)) where
     module _ (l₀ l₁ l₂ l₃ l₄ l₅ l₆ l₇ l₈ l₉ l₁₀ l₁₁ l₁₂ l₁₃ l₁₄ l₁₅ l₁₆ l₁₇ l₁₈ l₁₉ l₂₀ l₂₁ l₂₂ l₂₃ l₂₄ l₂₅ l₂₆ l₂₇ l₂₈ l₂₉ l₃₀ l₃₁ l₃₂ l₃₃ l₃₄ l₃₅ l₃₆ l₃₇ l₃₈ : ℕ) (ts : List Tx) where
       abbrev E : Env 𝓤 H
       E = (PL.mir, l₀) ∷ (sliceTy (tyRef (named 0) imm (tyInt w8)), l₁) ∷ (sliceTy (tyRef (named 1) mut (tyInt w32)), l₂) ∷ (sliceTy (tyRef (named 2) mut (tyInt w32)), l₃) ∷ (sliceTy (tyRef (named 3) mut (tyInt w32)), l₄) ∷ (tyRef (named 4) mut four, l₅) ∷ (sliceTy (tyRef (named 5) mut (tyInt w8)), l₆) ∷ (CL.mir, l₇) ∷ (Y′.mir, l₈) ∷ (array, l₉) ∷ (T′.mir erased, l₁₀) ∷ (R′.mir erased, l₁₁) ∷ (tyInt w64, l₁₂) ∷ (ML.mir, l₁₃) ∷ (array, l₁₄) ∷ (tyBool, l₁₅) ∷ (T′.mir erased, l₁₆) ∷ (I′.mir, l₁₇) ∷ (tyRef erased mut (tyInt w32), l₁₈) ∷ (sliceTy (tyRef erased mut (tyInt w32)), l₁₉) ∷ (tyRef erased mut (tyInt w32), l₂₀) ∷ (sliceTy (tyRef erased mut (tyInt w32)), l₂₁) ∷ (tyRef erased mut (tyInt w32), l₂₂) ∷ (sliceTy (tyRef erased mut (tyInt w32)), l₂₃) ∷ (tyRef erased mut four, l₂₄) ∷ (tyRef erased mut (tyInt w8), l₂₅) ∷ (sliceTy (tyRef erased mut (tyInt w8)), l₂₆) ∷ (tyInt w64, l₂₇) ∷ (tyPtr, l₂₈) ∷ (tyPtr, l₂₉) ∷ (X′.mir, l₃₀) ∷ (I′.mir, l₃₁) ∷ (tyInt w64, l₃₂) ∷ (tyPtr, l₃₃) ∷ (tyPtr, l₃₄) ∷ (tyBool, l₃₅) ∷ (tyBool, l₃₆) ∷ (array, l₃₇) ∷ (array, l₃₈) ∷ []
@@ -439,15 +443,18 @@ module _ {M : Type 1} (𝓤 : URA M) (H : Heap 𝓤) (A : Atoms 𝓤) (W : Given
             land ! (from ! (stop !)) (init ! 14 refl (LL.lawful M′.the-type ML.the-laws 𝓤 H A W .typed (x .0) _ (e₂ .0) .0)) $ sinks ! 1 $
             after-turn r e same fits i (e₁ .1) x e₂ _ _ _ _ _ _ _ _ _ _ _ _ _ _ _ _ _))))
 
-      ends-so : (st : State s z) → st .course .going ≡ false → Seq (Go {0}) W (put 𝓤 H A 15 (‵ (fat fullShare tyBool l₁₅ 0 (vbool false))) (Standing st)) (runs (𝓣 .C) (𝓣 .Λ) E Mir.t-6 (atRet E Post))
+      ends-so : (st : State s z) → st .course .going ≡ false → Seq (Go {0}) W (put 𝓤 H A 15 (‵ (fat fullShare tyBool l₁₅ 0 (vbool false))) (Standing st)) (runs (𝓣 .C) (𝓣 .Λ) E Mir.t-7 (atRet E Post))
       ends-so st off =
           knows ! 9 (‵ (fat fullShare array l₉ 0 (array-of (st .rows)))) refl (whole-array 𝓤 H A W (st .rows) (rows-long (st .loop)) l₉) (λ ix.
-          let is : Is P′.the-row (reached st) (mach-reached (reached st) ∷ []) = ((_ ∷ [], (_ ∷ [], (_ ∷ [], tt))), (refl, (st .course-is, (st .recovery-is, (ix, tt))))) in
           assigns ! (of-opd ! (held ! 9 refl)) (from ! (stop !)) (store ! 14 refl (typed-array 𝓤 H A W (st .rows) _ ix)) $
-          sets ! (agg ! (and-then ! (held ! 7 refl) (and-then ! (held ! 8 refl) (and-then ! (held ! 14 refl) (no-more !))))) 0 refl (LL.lawful P′.the-type PL.the-laws 𝓤 H A W .typed (reached st) _ is .0) $
-          returns ! (look ! 0 refl) $
+          comes ! fm (by-value Reaches 𝓤 H A W (𝓣 .C #all-done) (fm #all-done) known-reached _ (
+            of 𝓤 H A C′.the-row (LL.makes C′.the-type CL.the-plain 𝓤 H A) (st .course) (mach-course (st .course)) (st .course-is),
+            (of 𝓤 H A Y.the-row (EL.makes Y.the-type Y′.the-plain 𝓤 H A) (st .recovery) (mach-recovery (st .recovery)) (st .recovery-is), (the-rows (st .rows) ix, tt)),
+          ))
+          (λ _. and-then ! (held ! 7 refl) (and-then ! (held ! 8 refl) (and-then ! (held ! 14 refl) (no-more !)))) (λ x e₂.
+          land ! (from ! (stop !)) (init ! 0 refl (LL.lawful P′.the-type PL.the-laws 𝓤 H A W .typed x _ (e₂ .0) .0)) $ returns ! (look ! 0 refl) $
           leaves ! (has _ ∷ has _ ∷ has _ ∷ has _ ∷ has _ ∷ has _ ∷ has _ ∷ has _ ∷ has _ ∷ has _ ∷ has _ ∷ bare ∷ bare ∷ bare ∷ has _ ∷ has _ ∷ bare ∷ bare ∷ bare ∷ bare ∷ bare ∷ bare ∷ bare ∷ bare ∷ bare ∷ bare ∷ bare ∷ bare ∷ bare ∷ bare ∷ bare ∷ bare ∷ bare ∷ bare ∷ bare ∷ bare ∷ bare ∷ bare ∷ bare ∷ []) tt refl $
-          by ! (exits st _ is off))
+          by ! (exits st x _ (e₂ .0) (e₂ .1) off)))
 
     abbrev passed : List Val
     passed = only (slice-vals s) ∷ only (slice-vals (z .v .x)) ∷ only (slice-vals (z .p .x)) ∷ only (slice-vals (z .o .x)) ∷ only (ptr-vals (z .m .x)) ∷ only (slice-vals (z .t .x)) ∷ []
@@ -479,9 +486,9 @@ module _ {M : Type 1} (𝓤 : URA M) (H : Heap 𝓤) (A : Atoms 𝓤) (W : Given
 
 run-meets : {M : Type 1} (𝓤 : URA M) (H : Heap 𝓤) (A : Atoms 𝓤) → Given 𝓤 H A → (mem′ : Memory → SProp 𝓤) (run : Routine → Fun 𝓤) (𝓣 : Tables 𝓤 H)
     → Triple 𝓤 (𝓣 .C #first) (ByValue First 𝓤 H A) → Triple 𝓤 (𝓣 .C #idle) (ByValue Idles 𝓤 H A) → Triple 𝓤 (𝓣 .C #blank) (ByValue Blank 𝓤 H A) → Triple 𝓤 (𝓣 .C #next) (promised 𝓤 H A next.ended Nexts)
-    → Triple 𝓤 (𝓣 .C #slot-of) (ByValue SlotOf 𝓤 H A) → Triple 𝓤 (𝓣 .C #turn) (asked 𝓤 H A turn.ended Asks Turns-say) → Triple 𝓤 (𝓣 .C #crash-txs) (ByValue Crash 𝓤 H A)
+    → Triple 𝓤 (𝓣 .C #slot-of) (ByValue SlotOf 𝓤 H A) → Triple 𝓤 (𝓣 .C #turn) (asked 𝓤 H A turn.ended Asks Turns-say) → Triple 𝓤 (𝓣 .C #crash-txs) (ByValue Crash 𝓤 H A) → Triple 𝓤 (𝓣 .C #all-done) (ByValue Reaches 𝓤 H A)
     → Meets 𝓤 H A f.signature (WpFn 𝓤 H (𝓣 .C) (𝓣 .Λ) code.function) (f.spec 𝓤 H A mem′ run)
-run-meets 𝓤 H A W mem′ run 𝓣 k₁ k₂ k₃ k₄ k₅ k₆ k₇ =
+run-meets 𝓤 H A W mem′ run 𝓣 k₁ k₂ k₃ k₄ k₅ k₆ k₇ k₈ =
     let rows = goes-slice 𝓤 H A W 6 in
     walk-meets 𝓤 H A f.ended stayed W (
       goes-dropped 𝓤 H A W 6 (shrSliceOf (0 ∷ []) tt (plain (λ _. u8))) yes (λ κs x f. refl),
@@ -499,7 +506,7 @@ run-meets 𝓤 H A W mem′ run 𝓣 k₁ k₂ k₃ k₄ k₅ k₆ k₇ =
       m = record { κ = κs .1 .1 .1 .1 .0; q = qs .1 .1 .1 .1 .0; x = a .1 .1 .1 .1 .0 };
       t = record { κ = κs .1 .1 .1 .1 .1 .0; q = qs .1 .1 .1 .1 .1 .0; x = a .1 .1 .1 .1 .1 .0; room = are .1 .1 .1 .1 .1 .0 .0 .1 };
     })
-    (are .0) 𝓣 (fmOf 𝓤 H (W .laws) 𝓣) k₁ k₂ k₃ k₄ k₅ k₆ k₇ pre)))
+    (are .0) 𝓣 (fmOf 𝓤 H (W .laws) 𝓣) k₁ k₂ k₃ k₄ k₅ k₆ k₇ k₈ pre)))
 
 pub go-through-spec : {M : Type 1} → stated.statement M
 unfolding code.routine tablesOf
@@ -513,4 +520,5 @@ go-through-spec 𝓤 H 𝓜 𝓖 𝓡 =
     (cited 𝓤 H (promised 𝓤 H (𝓖 .A) next.ended Nexts) 𝓜 𝓡 code.env #next next-def.routine code.calls-reader·place·next (next-thm.met 𝓤 H 𝓜 𝓖 𝓡))
     (cited 𝓤 H (ByValue SlotOf 𝓤 H (𝓖 .A)) 𝓜 𝓡 code.env #slot-of slot-def.routine code.calls-trace·run·slot-of (slot-thm.met 𝓤 H 𝓜 𝓖 𝓡))
     (cited 𝓤 H (asked 𝓤 H (𝓖 .A) turn.ended Asks Turns-say) 𝓜 𝓡 code.env #turn turn-def.routine code.calls-trace·run·turn (turn-thm.met 𝓤 H 𝓜 𝓖 𝓡))
-    (cited 𝓤 H (ByValue Crash 𝓤 H (𝓖 .A)) 𝓜 𝓡 code.env #crash-txs crash-def.routine code.calls-trace·run·crash-txs (crash-thm.met 𝓤 H 𝓜 𝓖 𝓡)))
+    (cited 𝓤 H (ByValue Crash 𝓤 H (𝓖 .A)) 𝓜 𝓡 code.env #crash-txs crash-def.routine code.calls-trace·run·crash-txs (crash-thm.met 𝓤 H 𝓜 𝓖 𝓡))
+    (cited 𝓤 H (ByValue Reaches 𝓤 H (𝓖 .A)) 𝓜 𝓡 code.env #all-done reached-def.routine code.calls-trace·run·all-done (reached-thm.met 𝓤 H 𝓜 𝓖 𝓡)))
