@@ -36,7 +36,7 @@ pub data Claim : Type 0 where
   -- it is one of so many words and so many records, and nothing stops it
   whole : (words records : ℕ) → Claim
   -- the answers from the call after so many on
-  says : (past : ℕ) (replies : List Reply) → Claim
+  replies : (past : ℕ) (list : List Reply) → Claim
   -- recovery lines carried out in all
   lines : ℕ → Claim
   -- a word, on both sides, at the end
@@ -71,7 +71,7 @@ boundOf w = 5 * w .past .cut + 4 * w .past .crashes
 -- of the schedule, the world at its end and the answers given
 abbrev pub claimHolds : Schedule → World → List Reply → Claim → Bool
 claimHolds h w got (whole words records) = both (eqb (wordsIn h) words) (both (eqb (length (callsIn h)) records) (eqb (refusalIn h) 0))
-claimHolds h w got (says past replies) = allSame (take (length replies) (drop past got)) replies
+claimHolds h w got (replies past list) = allSame (take (length list) (drop past got)) list
 claimHolds h w got (lines n) = eqb (w .past .lines) n
 claimHolds h w got (word at value) = both (eqb (getD (w .store .mem .vol) at 0) value) (eqb (getD (w .store .mem .pers) at 0) value)
 claimHolds h w got (logged n) = eqb (countOf (w .store .mem .marks)) n

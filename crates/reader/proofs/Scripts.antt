@@ -69,7 +69,7 @@ after-inside bs at c k e =
 -- what holds of every call that the table's rows ask for
 abbrev pub AllAsk : (Call → Type 0) → List Kind → Type 0
 AllAsk P [] = Unit
-AllAsk P (x ∷ xs) = ((body : List ℕ) → P (x .asks body)) × AllAsk P xs
+AllAsk P (x ∷ xs) = ((body : List ℕ) → P (x .call body)) × AllAsk P xs
 
 kind-asks : (P : Call → Type 0) (xs : List Kind) (body : List ℕ) (c : Call) (k : ℕ) → AllAsk P xs → ofKind xs body ≡ does c k → P c
 unfolding ofKind

@@ -49,10 +49,10 @@ headerChecks bs =
 pub record Kind : Type 0 where
   pub number : ℕ
   pub long : ℕ
-  pub asks : List ℕ → Call
+  pub call : List ℕ → Call
 
 abbrev pub kind : ℕ → ℕ → (List ℕ → Call) → Kind
-kind number long asks = record { number = number; long = long; asks = asks }
+kind number long call = record { number = number; long = long; call = call }
 
 abbrev pub kinds : List Kind
 kinds =
@@ -73,7 +73,7 @@ ofLength long body call = pick (eqb (length body) long) (does call (2 + length b
 -- the body's first byte is the kind: 17 if it is in no row
 unfoldable pub ofKind : List Kind → List ℕ → Item
 ofKind [] body = stops 17
-ofKind (k ∷ ks) body = pick (eqb (byte body 0) (k .number)) (ofLength (k .long) body (k .asks body)) (ofKind ks body)
+ofKind (k ∷ ks) body = pick (eqb (byte body 0) (k .number)) (ofLength (k .long) body (k .call body)) (ofKind ks body)
 
 -- From the bytes that are left. No byte left is the end; one byte left, 20; length 0, 18; body beyond the end, 20.
 unfoldable pub found : List ℕ → Item
