@@ -1,8 +1,11 @@
-// The calls on a transaction's record for a host in another language, such as C or Rust: numbers and rows of numbers are all that it hands over.
+// The calls for a host in another language, such as C or Rust: numbers and rows of numbers are all that it hands over.
 // A row passes as a pointer and a length, and the rows of a call may not overlap. `numbers/specs/Numbers.antt` says how a store is spelled by the five rows: the
 // three of words, 8 numbers beside them and 256 for the records; any lengths and any numbers may be handed over, and those that spell no store are answered 9.
-// Each call gives the answer's number. Its value is 0 but for a step, so only a step takes a row for it: the value is put into the row's first number, if there
-// is one; a refused call (9 or above) leaves that row, too, as it was.
+// Each call gives the answer's number. Its value is 0 but for a step and for recovery with an allowance, so only these take a row for it: the value is put into
+// the row's first number, if there is one; a refused call (9 or above) leaves that row, too, as it was.
+// Here are the calls on a transaction's record, and in `events` those on none.
+pub mod events;
+
 use dtml::Ask;
 use dtml::Call;
 use numbers::asked;

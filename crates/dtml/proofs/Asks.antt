@@ -18,50 +18,50 @@ use Rattle.dtml.proofs.Roles.{Role, free, owner, ender, role}
 use Rattle.dtml.proofs.FreeLines.{moved}
 use Rattle.dtml.proofs.OwnerLines.{stays}
 
-pub new-fresh : (p : Phase) → isFresh (stage p) ≡ true → p ≡ Fresh
-new-fresh Fresh h = refl
-new-fresh Ready h = cc
-new-fresh Committed h = cc
-new-fresh Aborted h = cc
-new-fresh B1 h = cc
-new-fresh B2 h = cc
-new-fresh (R1 w) h = cc
-new-fresh (R2 v) h = cc
-new-fresh (W1 w v) h = cc
-new-fresh (W2 w v) h = cc
-new-fresh (W3 w v) h = cc
-new-fresh (W4 w v) h = cc
-new-fresh (W5 w v) h = cc
-new-fresh (W6 w v) h = cc
-new-fresh (W7 w) h = cc
-new-fresh E1 h = cc
-new-fresh E2 h = cc
-new-fresh E3 h = cc
+pub fresh-only : (p : Phase) → isFresh (stage p) ≡ true → p ≡ Fresh
+fresh-only Fresh h = refl
+fresh-only Ready h = cc
+fresh-only Committed h = cc
+fresh-only Aborted h = cc
+fresh-only B1 h = cc
+fresh-only B2 h = cc
+fresh-only (R1 w) h = cc
+fresh-only (R2 v) h = cc
+fresh-only (W1 w v) h = cc
+fresh-only (W2 w v) h = cc
+fresh-only (W3 w v) h = cc
+fresh-only (W4 w v) h = cc
+fresh-only (W5 w v) h = cc
+fresh-only (W6 w v) h = cc
+fresh-only (W7 w) h = cc
+fresh-only E1 h = cc
+fresh-only E2 h = cc
+fresh-only E3 h = cc
 
-pub waiting-ready : (p : Phase) → isReady (stage p) ≡ true → p ≡ Ready
-waiting-ready Fresh h = cc
-waiting-ready Ready h = refl
-waiting-ready Committed h = cc
-waiting-ready Aborted h = cc
-waiting-ready B1 h = cc
-waiting-ready B2 h = cc
-waiting-ready (R1 w) h = cc
-waiting-ready (R2 v) h = cc
-waiting-ready (W1 w v) h = cc
-waiting-ready (W2 w v) h = cc
-waiting-ready (W3 w v) h = cc
-waiting-ready (W4 w v) h = cc
-waiting-ready (W5 w v) h = cc
-waiting-ready (W6 w v) h = cc
-waiting-ready (W7 w) h = cc
-waiting-ready E1 h = cc
-waiting-ready E2 h = cc
-waiting-ready E3 h = cc
+pub ready-only : (p : Phase) → isReady (stage p) ≡ true → p ≡ Ready
+ready-only Fresh h = cc
+ready-only Ready h = refl
+ready-only Committed h = cc
+ready-only Aborted h = cc
+ready-only B1 h = cc
+ready-only B2 h = cc
+ready-only (R1 w) h = cc
+ready-only (R2 v) h = cc
+ready-only (W1 w v) h = cc
+ready-only (W2 w v) h = cc
+ready-only (W3 w v) h = cc
+ready-only (W4 w v) h = cc
+ready-only (W5 w v) h = cc
+ready-only (W6 w v) h = cc
+ready-only (W7 w) h = cc
+ready-only E1 h = cc
+ready-only E2 h = cc
+ready-only E3 h = cc
 
 module _ (n : ℕ) (m : Memory) (r : Recovery) (ts : List Tx) (ks : List Tale) (past : Past) (t : ℕ) (ht : t < 64) (i : notIdle r ≡ false)
     (inv : Inv n m r ts ks (last past)) where
   pub begun : isFresh (stage (recordAt ts t .phase)) ≡ true → Inv n m r (set ts t (tx (recordAt ts t .loc) B1)) (set ks t starting) (last past)
-  begun s = go (new-fresh (recordAt ts t .phase) s) (role n m r ts ks (last past) t ht (inv .shape) (inv .mode) i)
+  begun s = go (fresh-only (recordAt ts t .phase) s) (role n m r ts ks (last past) t ht (inv .shape) (inv .mode) i)
     where
       go : recordAt ts t .phase ≡ Fresh → Role n m r ts ks (last past) t
           → Inv n m r (set ts t (tx (recordAt ts t .loc) B1)) (set ks t starting) (last past)
@@ -77,7 +77,7 @@ module _ (n : ℕ) (m : Memory) (r : Recovery) (ts : List Tx) (ks : List Tale) (
       → Free n (m .glb) (last past) (recordAt ts t .loc) p (askedFor (taleAt ks t) a))
       → (recordAt ts t .loc ≡ m .glb → Clean n m (last past) (taleAt ks t) → Owner n m (last past) (recordAt ts t .loc) p (askedFor (taleAt ks t) a))
       → Inv n m r (set ts t (tx (recordAt ts t .loc) p)) (set ks t (askedFor (taleAt ks t) a)) (last past)
-  asked a p s as-free as-owner = go (waiting-ready (recordAt ts t .phase) s) (role n m r ts ks (last past) t ht (inv .shape) (inv .mode) i)
+  asked a p s as-free as-owner = go (ready-only (recordAt ts t .phase) s) (role n m r ts ks (last past) t ht (inv .shape) (inv .mode) i)
     where
       go : recordAt ts t .phase ≡ Ready → Role n m r ts ks (last past) t
           → Inv n m r (set ts t (tx (recordAt ts t .loc) p)) (set ks t (askedFor (taleAt ks t) a)) (last past)

@@ -27,7 +27,7 @@ use Rattle.dtml.proofs.Invariant.{Free, Owner, Ender}
 use Rattle.dtml.proofs.Words.{same-or-not, pick-case}
 use Rattle.dtml.proofs.Fit.{up-to-keeps}
 use Rattle.dtml.proofs.Roles.{Role, free, owner, ender, role}
-use Rattle.dtml.proofs.Asks.{new-fresh, waiting-ready}
+use Rattle.dtml.proofs.Asks.{fresh-only, ready-only}
 use Rattle.dtml.proofs.Worlds.{Passes, InvW, acted, tell-keeps}
 
 -- how often a transaction can still raise the count
@@ -204,19 +204,19 @@ unfolding acted act ask system
 low-act n w (on t begin) inv p low =
     let ht = leb-false 64 t (p .1 .0) in
     low-set (w .store .mem) (w .store .mem) (w .store .txs) t _ (inv .shape .txs-long) ht
-    (rw (new-fresh (recordAt (w .store .txs) t .phase) (not-false _ (p .1 .1 .1 .0))) (le-refl _)) (low .locs-low t ht) low
+    (rw (fresh-only (recordAt (w .store .txs) t .phase) (not-false _ (p .1 .1 .1 .0))) (le-refl _)) (low .locs-low t ht) low
 low-act n w (on t (read x)) inv p low =
     let ht = leb-false 64 t (p .1 .0) in
     low-set (w .store .mem) (w .store .mem) (w .store .txs) t _ (inv .shape .txs-long) ht
-    (rw (waiting-ready (recordAt (w .store .txs) t .phase) (not-false _ (p .1 .1 .1 .1 .0))) (le-refl _)) (low .locs-low t ht) low
+    (rw (ready-only (recordAt (w .store .txs) t .phase) (not-false _ (p .1 .1 .1 .1 .0))) (le-refl _)) (low .locs-low t ht) low
 low-act n w (on t (write x v)) inv p low =
     let ht = leb-false 64 t (p .1 .0) in
     low-set (w .store .mem) (w .store .mem) (w .store .txs) t _ (inv .shape .txs-long) ht
-    (rw (waiting-ready (recordAt (w .store .txs) t .phase) (not-false _ (p .1 .1 .1 .1 .0))) (le-refl _)) (low .locs-low t ht) low
+    (rw (ready-only (recordAt (w .store .txs) t .phase) (not-false _ (p .1 .1 .1 .1 .0))) (le-refl _)) (low .locs-low t ht) low
 low-act n w (on t commit) inv p low =
     let ht = leb-false 64 t (p .1 .0) in
     low-set (w .store .mem) (w .store .mem) (w .store .txs) t _ (inv .shape .txs-long) ht
-    (rw (waiting-ready (recordAt (w .store .txs) t .phase) (not-false _ (p .1 .1 .1 .0))) (le-refl _)) (low .locs-low t ht) low
+    (rw (ready-only (recordAt (w .store .txs) t .phase) (not-false _ (p .1 .1 .1 .0))) (le-refl _)) (low .locs-low t ht) low
 low-act n w (on t step) inv p low = low-step n w t inv p low
 low-act n w (sys (flush x)) inv p low = lower (w .store .mem) _ _ (le-refl _) low
 low-act n w (sys crash) inv p low = low-crash (w .store .mem) _ (w .store .txs) refl low

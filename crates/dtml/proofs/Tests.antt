@@ -23,7 +23,7 @@ use Rattle.dtml.specs.First.{anyOf}
 use Rattle.dtml.specs.Checks.{unfitRows, phasePast, unfitRecovery, unfitTx, unfitTxs, unfitBeside, unfitMemory, unfit, notIdle, isFresh, isReady, isAtLine}
 use Rattle.dtml.specs.Rules.{CallNames, by-read, by-write, by-flush, WrongLength, pers-differs, old-differs, no-word, above-256, not-64, Names, at-R1, at-W1, at-W2, at-W3, at-W4, at-W5, at-W6, at-W7, RecoveryNames, at-C3, at-C4, at-C5, Unfit, lengths, mark-past, glb-above, loc-above, phase-past, recovery-past, C2-unmarked, NoLine}
 use Rattle.dtml.proofs.Words.{true-or-false, true-not-false, is-idle, idle-is, none-marked}
-use Rattle.dtml.proofs.Asks.{new-fresh, waiting-ready}
+use Rattle.dtml.proofs.Asks.{fresh-only, ready-only}
 use Rattle.dtml.proofs.Fit.{last, none, FitRows, rows-fit, FitMemory, memory-fits, tx-fits}
 use Rattle.dtml.proofs.Figure.{all-unmarked}
 
@@ -68,13 +68,13 @@ idle r = record { holds = λ e. idle-is r (not-true (notIdle r) e); fails = λ e
 pub not-fresh : (p : Phase) → Tests (not (isFresh (stage p))) (p ≡ Fresh → ⊥)
 not-fresh p = record {
   holds = λ e q. true-not-false (ap (λ x. isFresh (stage x)) q) (not-true (isFresh (stage p)) e);
-  fails = λ e f. f (new-fresh p (not-false (isFresh (stage p)) e));
+  fails = λ e f. f (fresh-only p (not-false (isFresh (stage p)) e));
 }
 
 pub not-ready : (p : Phase) → Tests (not (isReady (stage p))) (p ≡ Ready → ⊥)
 not-ready p = record {
   holds = λ e q. true-not-false (ap (λ x. isReady (stage x)) q) (not-true (isReady (stage p)) e);
-  fails = λ e f. f (waiting-ready p (not-false (isReady (stage p)) e));
+  fails = λ e f. f (ready-only p (not-false (isReady (stage p)) e));
 }
 
 is-line : (p : Phase) → isAtLine (stage p) ≡ false → NoLine p

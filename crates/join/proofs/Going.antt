@@ -8,9 +8,6 @@ use lib.ListN.{length, set, replicate, length-set}
 use lib.Seq.{length-take-le}
 use lib.Dec.{ltb}
 use borrow.Author.Tests.{ltb-true}
-use denote.Laws.{Is}
-use denote.Steps.{only}
-use denote.Struct.Laws as LL
 use Rattle.io.specs.Counts.{Counts}
 use Rattle.bits.specs.Marks.{pick}
 use Rattle.dtml.specs.declared.Call.{Call}
@@ -23,12 +20,9 @@ use Rattle.dtml.specs.Checks.{unfitRows}
 use Rattle.dtml.specs.Calls.{call, makeFresh}
 use Rattle.machine.specs.declared.Held.{Held}
 use Rattle.machine.specs.declared.After.{After}
-use Rattle.machine.specs.Given.{storeOf, outcomeOf}
-use Rattle.machine.proofs.Held as H′
-use Rattle.machine.proofs.Held.Laws as HL
+use Rattle.machine.proofs.Caller.{Spelled, Rows, these-rows, Long, store-of, left-as}
 use Rattle.text.specs.Buffer.{Buffer, buffer, put, puts}
 use Rattle.join.specs.Join.{askedAt, told, storeAt, outcomeAt, textAt}
-use Rattle.join.proofs.Lending.{Rows, these-rows, Long}
 
 abbrev pub rowsAt : ℕ → Rows
 rowsAt i = these-rows (storeAt i .mem .vol) (storeAt i .mem .pers) (storeAt i .mem .old) (storeAt i .txs)
@@ -44,7 +38,7 @@ pub record Left (i : ℕ) (z : Rows) (a : After) : Type 0 where
   pub txs : z .txs ≡ storeAt i .txs
   pub held : a .held ≡ heldAt i
 
-left-so : (i : ℕ) (z : Rows) (a : After) (o : Outcome) → outcomeOf (z .vol) (z .pers) (z .old) (z .txs) a ≡ o → o .store ≡ storeAt i → Left i z a
+left-so : (i : ℕ) (z : Rows) (a : After) (o : Outcome) → left-as z a ≡ o → o .store ≡ storeAt i → Left i z a
 left-so i z a o e f =
     let g = ap (λ (x : Outcome). x .store) e ∙ f in
     record {
@@ -55,10 +49,14 @@ left-so i z a o e f =
       held = ap (λ s. record { marks = s .mem .marks; glb = s .mem .glb; recovery = s .rec }) g;
     }
 
+-- the rows at first, with the records
+abbrev pub zeros-and : List Tx → Rows
+zeros-and ts = these-rows (replicate 4 0) (replicate 4 0) (replicate 4 0) ts
+
 pub made : (z : Rows) (a : After) (h : Held) (xs : List Tx) → xs ≡ replicate 64 (tx 0 Fresh)
-    → outcomeOf (z .vol) (z .pers) (z .old) (z .txs) a ≡ makeFresh (storeOf (replicate 4 0) (replicate 4 0) (replicate 4 0) h xs) → Left 0 z a
+    → left-as z a ≡ makeFresh (store-of (zeros-and xs) h) → Left 0 z a
 unfolding makeFresh unfitRows fresh storeAt
-made z a h xs x e = left-so 0 z a _ (e ∙ ap (λ (ts : List Tx). makeFresh (storeOf (replicate 4 0) (replicate 4 0) (replicate 4 0) h ts)) x) refl
+made z a h xs x e = left-so 0 z a _ (e ∙ ap (λ (ts : List Tx). makeFresh (store-of (zeros-and ts) h)) x) refl
 
 pub started : (out : List ℕ) → buffer out 0 ≡ textAt out 0
 unfolding textAt
@@ -66,8 +64,8 @@ started out = refl
 
 -- one call more
 module _ (i : ℕ) (z : Rows) (a : After) (asked : Call) (is : asked ≡ askedAt i)
-    (e : outcomeOf (z .vol) (z .pers) (z .old) (z .txs) a ≡ call (storeOf (rowsAt i .vol) (rowsAt i .pers) (rowsAt i .old) (heldAt i) (rowsAt i .txs)) asked) where
-  went : outcomeOf (z .vol) (z .pers) (z .old) (z .txs) a ≡ outcomeAt i
+    (e : left-as z a ≡ call (store-of (rowsAt i) (heldAt i)) asked) where
+  went : left-as z a ≡ outcomeAt i
   went = e ∙ ap (call (storeAt i)) is
 
   pub called : Left (suc i) z a
@@ -83,10 +81,14 @@ module _ (i : ℕ) (z : Rows) (a : After) (asked : Call) (is : asked ≡ askedAt
   wrote out bytes at f = f ∙ ap (λ (x : Call). puts (textAt out i) (told x (reply (a .answer)) (rowsAt (suc i) .pers))) is
       ∙ ap (λ (r : Reply). puts (textAt out i) (told (askedAt i) r (rowsAt (suc i) .pers))) answers
 
+-- the rows are as long as the arrays
+abbrev Whole : Rows → Type 0
+Whole z = Long 4 4 4 64 z
+
 -- what is known beside the values themselves
 pub record Stands (out : List ℕ) (i : ℕ) : Type 0 where
-  pub long : Long (rowsAt i)
-  pub held : Is H′.the-row (heldAt i) (only (LL.vals H′.the-type HL.the-laws (heldAt i)) ∷ [])
+  pub long : Whole (rowsAt i)
+  pub held : Spelled (heldAt i)
   pub place : textAt out i .at < 2 ^ 64
   pub bytes : length (textAt out i .bytes) ≡ length out
 
@@ -114,7 +116,7 @@ counts-so out i = (within out i, sym (length-take-le (textAt out i .at) (textAt 
 
 -- what is known goes on with the store and the text
 module _ {i : ℕ} {z : Rows} {a : After} (left : Left i z a) where
-  pub long-on : Long z → Long (rowsAt i)
+  pub long-on : Whole z → Whole (rowsAt i)
   long-on l = record {
     vol = ap length (sym (left .vol)) ∙ l .vol;
     pers = ap length (sym (left .pers)) ∙ l .pers;
@@ -122,11 +124,11 @@ module _ {i : ℕ} {z : Rows} {a : After} (left : Left i z a) where
     txs = ap length (sym (left .txs)) ∙ l .txs;
   }
 
-  pub stands-on : {out : List ℕ} → Long z → Is H′.the-row (a .held) (only (LL.vals H′.the-type HL.the-laws (a .held)) ∷ []) → (bytes : List ℕ) (at : ℕ) → buffer bytes at ≡ textAt out i
+  pub stands-on : {out : List ℕ} → Whole z → Spelled (a .held) → (bytes : List ℕ) (at : ℕ) → buffer bytes at ≡ textAt out i
       → at < 2 ^ 64 → length bytes ≡ length out → Stands out i
   stands-on l h bytes at e fits kept = record {
     long = long-on l;
-    held = subst (λ (x : Held). Is H′.the-row x (only (LL.vals H′.the-type HL.the-laws x) ∷ [])) (left .held) h;
+    held = subst Spelled (left .held) h;
     place = subst (λ (x : Buffer). x .at < 2 ^ 64) e fits;
     bytes = ap (λ (x : Buffer). length (x .bytes)) (sym e) ∙ kept;
   }

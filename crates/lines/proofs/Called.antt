@@ -24,8 +24,8 @@ use Rattle.dtml.specs.First.{anyOf}
 use Rattle.dtml.specs.Checks.{unfitMemory, unfitOne, unfitTx, notIdle, isFresh, isReady}
 use Rattle.dtml.specs.Calls.{ask}
 use Rattle.dtml.specs.Handed.{no-turn, a-turn, callOne}
-use Rattle.turn.specs.declared.Turn.the-variants.{Refused, Went}
-use Rattle.turn.specs.Turning.{turnedOf}
+use Rattle.lines.specs.declared.turn.Turn.the-variants.{Refused, Went}
+use Rattle.lines.specs.Turning.{turnedOf}
 use Rattle.lines.specs.Stepping.{stepOf, askPast, refusalOf}
 
 -- ---- by the identifier

@@ -10,8 +10,8 @@ use Rattle.dtml.specs.Table.{reply}
 use Rattle.dtml.specs.Store.{Memory, memory}
 use Rattle.dtml.specs.Asked.{did}
 use Rattle.dtml.specs.Handed.{a-turn}
-use Rattle.turn.specs.declared.Turn.the-variants.{Went}
-use Rattle.turn.specs.Turning.{turnedOf}
+use Rattle.lines.specs.declared.turn.Turn.the-variants.{Went}
+use Rattle.lines.specs.Turning.{turnedOf}
 
 pub turned-pick : (b : Bool) (x y : Answer) (t u : Tx) (m : Memory)
     → turnedOf (pick b (Went x t) (Went y u)) m ≡ a-turn (pick b (did (reply x) m t) (did (reply y) m u))

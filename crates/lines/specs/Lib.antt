@@ -1,2 +1,3 @@
 pub mod Room
 pub mod Stepping
+pub mod Turning

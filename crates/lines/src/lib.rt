@@ -1,8 +1,12 @@
 // Any call on one transaction's record, by value: begin, read, write, commit, or a step, which is the one line at which it stands. It tests for fitness all that it
 // is handed, the three word rows, the marks, the count, recovery and the record, and answers for all arguments.
+mod asks;
 mod transaction;
+pub mod turn;
 
 use crate::transaction::line;
+use crate::turn::Turn;
+use crate::turn::refused;
 use dtml::Answer;
 use dtml::Ask;
 use dtml::Recovery;
@@ -12,15 +16,13 @@ use parts::fit::unfit_beside;
 use parts::fit::unfit_idle;
 use parts::fit::unfit_one;
 use parts::fit::unfit_tx;
-use stages::not_idle;
-use turn::Turn;
-use turn::refused;
+use parts::stages::not_idle;
 ghost use mathlib.Core.Path.{_≡_};
 ghost use Rattle.bits.specs.Marks.{pick};
 ghost use Rattle.dtml.specs.Store.{memory};
 ghost use Rattle.dtml.specs.Checks.{unfitOne};
 ghost use Rattle.dtml.specs.Handed.{callOne};
-ghost use Rattle.turn.specs.Turning.{turnedOf};
+ghost use Rattle.lines.specs.Turning.{turnedOf};
 ghost use Rattle.lines.specs.Stepping.{askPast, refusalOf};
 
 // The call names a word at n or above.

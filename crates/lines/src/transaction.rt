@@ -1,13 +1,13 @@
 // The lines of a transaction, B1 to E3, on its record.
+use crate::turn::Turn;
+use crate::turn::answered;
+use crate::turn::refused;
+use crate::turn::to;
 use dtml::Answer;
 use dtml::Phase;
 use dtml::Tx;
 use marks::Marks;
 use parts::words::flush_word;
-use turn::Turn;
-use turn::answered;
-use turn::refused;
-use turn::to;
 ghost use mathlib.Core.Path.{_≡_};
 ghost use Prim.Native.Nat.{_+_, _<_, _≤_};
 ghost use lib.ListN.{length, getD, set};
@@ -15,7 +15,7 @@ ghost use lib.Dec.{eqb};
 ghost use Rattle.bits.specs.Marks.{pick, isMarked, markOf, clearOf};
 ghost use Rattle.dtml.specs.Store.{memory};
 ghost use Rattle.dtml.specs.Lines.{even, flushOf};
-ghost use Rattle.turn.specs.Turning.{turnOf, turnedOf};
+ghost use Rattle.lines.specs.Turning.{turnOf, turnedOf};
 ghost use Rattle.lines.specs.Room.{Room};
 ghost use Rattle.lines.specs.Stepping.{stepOf};
 

@@ -37,9 +37,9 @@ use denote.Triple.Clauses.{Ended, Clauses, AtExit, atExit, closing}
 use denote.Triple.Walked.{says, Stays, AllGo, fitsOf, hasOf, gave-slice, stay-slice, stay-dropped, goes-gave-slice, goes-slice, goes-dropped, walkOf, ends-at}
 use Rattle.dtml.specs.declared.Tx.{Tx}
 use Rattle.dtml.proofs.Tx as T
-use Rattle.records.proofs.Walk.{meets}
-use Rattle.records.proofs.Again.{LentAgain, lends-again, comes-back}
-use Rattle.records.proofs.Calling.{Comes, slots, all-kept, plainly, Passeds, these, values, args, vss, flat-is, these-are, owns-all, Callee, promised, Heard, hears}
+use Rattle.walks.proofs.Walk.{meets}
+use Rattle.walks.proofs.Calling.{Comes, slots, all-kept, plainly, Passeds, these, values, args, vss, flat-is, these-are, owns-all, Callee, promised, Heard, hears}
+use Rattle.walks.proofs.Again.{LentAgain, lends-again, comes-back}
 
 abbrev pub Triple-of : Type 0 → Type 0
 Triple-of X = X × (X × X)

@@ -27,9 +27,9 @@ use Rattle.dtml.specs.Calls.{refused, call, makeFresh}
 use Rattle.dtml.specs.Handed.{callOne, callSystem, left, turnLeft, eventLeft, carry, slotOf, isCrash, crashed, reach}
 use Rattle.dtml.proofs.Fit.{none}
 use Rattle.dtml.proofs.Lift.{unfit-call, unfit-system, carries}
-use Rattle.turn.specs.declared.Turn.{Turn}
-use Rattle.turn.specs.declared.Turn.the-variants as Turn
-use Rattle.turn.specs.Turning.{turnedOf}
+use Rattle.lines.specs.declared.turn.Turn.{Turn}
+use Rattle.lines.specs.declared.turn.Turn.the-variants as Turn
+use Rattle.lines.specs.Turning.{turnedOf}
 use Rattle.system.specs.declared.Event.{Event}
 use Rattle.system.specs.declared.Event.the-variants as Event
 use Rattle.system.specs.Healing.{happenedOf}

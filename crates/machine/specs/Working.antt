@@ -16,8 +16,8 @@ use Rattle.dtml.specs.declared.Call.{Call}
 use Rattle.dtml.specs.First.{anyOf}
 use Rattle.dtml.specs.Checks.{unfitRows}
 use Rattle.dtml.specs.Handed.{Left, left, carry, crashed}
-use Rattle.turn.specs.declared.Turn.{Turn}
-use Rattle.turn.specs.declared.Turn.the-variants as Turn
+use Rattle.lines.specs.declared.turn.Turn.{Turn}
+use Rattle.lines.specs.declared.turn.Turn.the-variants as Turn
 use Rattle.system.specs.declared.Event.{Event}
 use Rattle.system.specs.declared.Event.the-variants as Event
 use Rattle.machine.specs.declared.Held.{Held}

@@ -1,3 +1,3 @@
 mod Places
-mod Landing
+pub mod Reading
 pub mod Scripts

@@ -1,5 +1,4 @@
 -- What the proofs of recovery share.
 mod Allowance
 mod Named
-mod Flushed
 mod Tests

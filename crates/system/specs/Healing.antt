@@ -1,13 +1,10 @@
 -- What a call of this crate gives back, as the definitions have it.
 use Rattle.dtml.specs.declared.Answer.{Answer}
 use Rattle.dtml.specs.declared.Recovery.{Recovery}
-use Rattle.dtml.specs.Table.{says, reply}
-use Rattle.dtml.specs.Store.{Memory, size}
-use Rattle.dtml.specs.declared.Sys.{Sys}
+use Rattle.dtml.specs.Table.{reply}
+use Rattle.dtml.specs.Store.{Memory}
 use Rattle.dtml.specs.Asked.{Healed, healed}
-use Rattle.dtml.specs.First.{first}
-use Rattle.dtml.specs.Checks.{sysChecks}
-use Rattle.dtml.specs.Handed.{Happened, nothing, a-flush, a-crash, some-lines, happens}
+use Rattle.dtml.specs.Handed.{Happened, nothing, a-flush, a-crash, some-lines}
 use Rattle.system.specs.declared.Event.{Event}
 use Rattle.system.specs.declared.Event.the-variants as Event
 use Rattle.system.specs.declared.recovery.Heal.{Heal}
@@ -25,7 +22,3 @@ happenedOf (Event.Refused a) m = nothing (reply a) m
 happenedOf Event.Flushed m = a-flush m
 happenedOf Event.Crashed m = a-crash m
 happenedOf (Event.Healed a k r) m = some-lines k (healed (reply a) m r)
-
--- a call on what was found fit
-abbrev pub fitOf : Memory → Recovery → Sys → Happened
-fitOf m r k = first (sysChecks (size m) r k) (λ n. nothing (says n 0) m) (happens m r k)

@@ -15,22 +15,18 @@ use dtml::Tx;
 use marks::Marks;
 use parts::answer::value;
 use parts::fit::unfit_beside;
+use parts::fit::unfit_idle;
+use parts::stages::is_live;
+use parts::stages::not_idle;
+use parts::stages::stage;
 use parts::words::flush_word;
-use stages::is_live;
-use stages::not_idle;
-use stages::stage;
 ghost use mathlib.Core.Path.{_≡_};
-ghost use mathlib.Core.Bool.{false};
-ghost use lib.Dec.{leb};
-ghost use lib.ListN.{length};
-ghost use Rattle.bits.specs.Marks.{pick};
 ghost use Rattle.dtml.specs.Store.{memory};
 ghost use Rattle.dtml.specs.Lines.{crashTx};
-ghost use Rattle.dtml.specs.declared.Sys.the-variants.{Recover as recoverAsked, RecoverUpTo as recoverUpTo};
+ghost use Rattle.dtml.specs.declared.Sys.the-variants.{Flush as flushAsked, Crash as crashAsked, Recover as recoverAsked, RecoverUpTo as recoverUpTo};
 ghost use Rattle.dtml.specs.Checks.{unfitBeside};
 ghost use Rattle.dtml.specs.Handed.{callSystem};
-ghost use Rattle.parts.specs.Flush.{flushIn};
-ghost use Rattle.system.specs.Healing.{happenedOf, fitOf};
+ghost use Rattle.system.specs.Healing.{happenedOf};
 
 // What a call gives back: it was refused; or it was a flush, which leaves recovery where it stands; or a crash, which leaves it at C1 and reaches every
 // record (`crash_tx`); or so many recovery lines.
@@ -65,10 +61,39 @@ fn healed(heal: Heal, lines: u64) -> Event
     }
 }
 
-fn flush(vol: &[u32], pers: &mut [u32], word: u32) -> Event
-    ensures { λ r. ⌜ (r ≡ pick (leb (length (now (vol .entry))) word) (Event.Refused Answer.NoWord) Event.Flushed)
-        × (now (pers .exit) ≡ pick (leb (length (now (vol .entry))) word) (now (pers .entry)) (flushIn (now (vol .entry)) (now (pers .entry)) word)) ⌝ }
+// Unfit without a look at the records, as `unfit_beside` says it; whether recovery is idle is asked first, since a flush mostly finds it so.
+fn unfit_now(
+    vol: usize,
+    pers: usize,
+    old: usize,
+    marks: &Marks,
+    glb: u32,
+    recovery: Recovery,
+) -> bool
+    ensures { λ r. ⌜ r ≡ unfitBeside vol pers old (now (marks .entry)) glb recovery ⌝ }
 {
+    if not_idle(recovery) {
+        return unfit_beside(vol, pers, old, marks, glb, recovery);
+    }
+    unfit_idle(vol, pers, old, marks, glb)
+}
+
+// Each call tests what it is handed.
+fn flush(
+    vol: &[u32],
+    pers: &mut [u32],
+    old: &[u32],
+    marks: &Marks,
+    glb: u32,
+    recovery: Recovery,
+    word: u32,
+) -> Event
+    ensures { λ r. ⌜ happenedOf r (memory (now (vol .entry)) (now (pers .exit)) (now (old .entry)) (now (marks .entry)) glb)
+        ≡ callSystem (memory (now (vol .entry)) (now (pers .entry)) (now (old .entry)) (now (marks .entry)) glb) recovery (flushAsked word) ⌝ }
+{
+    if unfit_now(vol.len(), pers.len(), old.len(), marks, glb, recovery) {
+        return refused(Answer::Unfit);
+    }
     if vol.len() <= word as usize {
         return refused(Answer::NoWord);
     }
@@ -76,11 +101,20 @@ fn flush(vol: &[u32], pers: &mut [u32], word: u32) -> Event
     Event::Flushed
 }
 
-// What a crash does to the memory.
-fn crash(vol: &mut [u32], pers: &[u32], glb: &mut u32) -> Event
-    requires { ⌜ length (now vol) ≡ length (now pers) ⌝ }
-    ensures { λ r. ⌜ (r ≡ Event.Crashed) × (now (vol .exit) ≡ now (pers .entry)) × (now (glb .exit) ≡ 0) ⌝ }
+fn crash(
+    vol: &mut [u32],
+    pers: &[u32],
+    old: &[u32],
+    marks: &Marks,
+    glb: &mut u32,
+    recovery: Recovery,
+) -> Event
+    ensures { λ r. ⌜ happenedOf r (memory (now (vol .exit)) (now (pers .entry)) (now (old .entry)) (now (marks .entry)) (now (glb .exit)))
+        ≡ callSystem (memory (now (vol .entry)) (now (pers .entry)) (now (old .entry)) (now (marks .entry)) (now (glb .entry))) recovery crashAsked ⌝ }
 {
+    if unfit_beside(vol.len(), pers.len(), old.len(), marks, *glb, recovery) {
+        return refused(Answer::Unfit);
+    }
     copy(vol, pers);
     *glb = 0;
     Event::Crashed
@@ -94,10 +128,12 @@ fn recover(
     glb: &mut u32,
     recovery: Recovery,
 ) -> Event
-    requires { ⌜ unfitBeside (length (now vol)) (length (now pers)) (length (now old)) (now marks) (now glb) recovery ≡ false ⌝ }
     ensures { λ r. ⌜ happenedOf r (memory (now (vol .exit)) (now (pers .exit)) (now (old .entry)) (now (marks .exit)) (now (glb .exit)))
-        ≡ fitOf (memory (now (vol .entry)) (now (pers .entry)) (now (old .entry)) (now (marks .entry)) (now (glb .entry))) recovery recoverAsked ⌝ }
+        ≡ callSystem (memory (now (vol .entry)) (now (pers .entry)) (now (old .entry)) (now (marks .entry)) (now (glb .entry))) recovery recoverAsked ⌝ }
 {
+    if unfit_beside(vol.len(), pers.len(), old.len(), &*marks, *glb, recovery) {
+        return refused(Answer::Unfit);
+    }
     if !not_idle(recovery) {
         return refused(Answer::Idle);
     }
@@ -114,10 +150,12 @@ fn recover_up_to(
     recovery: Recovery,
     allowance: u64,
 ) -> Event
-    requires { ⌜ unfitBeside (length (now vol)) (length (now pers)) (length (now old)) (now marks) (now glb) recovery ≡ false ⌝ }
     ensures { λ r. ⌜ happenedOf r (memory (now (vol .exit)) (now (pers .exit)) (now (old .entry)) (now (marks .exit)) (now (glb .exit)))
-        ≡ fitOf (memory (now (vol .entry)) (now (pers .entry)) (now (old .entry)) (now (marks .entry)) (now (glb .entry))) recovery (recoverUpTo allowance) ⌝ }
+        ≡ callSystem (memory (now (vol .entry)) (now (pers .entry)) (now (old .entry)) (now (marks .entry)) (now (glb .entry))) recovery (recoverUpTo allowance) ⌝ }
 {
+    if unfit_beside(vol.len(), pers.len(), old.len(), &*marks, *glb, recovery) {
+        return refused(Answer::Unfit);
+    }
     if !not_idle(recovery) {
         return refused(Answer::Idle);
     }
@@ -138,12 +176,9 @@ pub fn call_system(
     ensures { λ r. ⌜ happenedOf r (memory (now (vol .exit)) (now (pers .exit)) (now (old .entry)) (now (marks .exit)) (now (glb .exit)))
         ≡ callSystem (memory (now (vol .entry)) (now (pers .entry)) (now (old .entry)) (now (marks .entry)) (now (glb .entry))) recovery sys ⌝ }
 {
-    if unfit_beside(vol.len(), pers.len(), old.len(), &*marks, *glb, recovery) {
-        return refused(Answer::Unfit);
-    }
     match sys {
-        Sys::Flush { word } => flush(&*vol, pers, word),
-        Sys::Crash => crash(vol, &*pers, glb),
+        Sys::Flush { word } => flush(&*vol, pers, old, &*marks, *glb, recovery, word),
+        Sys::Crash => crash(vol, &*pers, old, &*marks, glb, recovery),
         Sys::Recover => recover(vol, pers, old, marks, glb, recovery),
         Sys::RecoverUpTo { allowance } => recover_up_to(
             vol,

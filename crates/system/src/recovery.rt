@@ -2,8 +2,8 @@
 use dtml::Answer;
 use dtml::Recovery;
 use marks::Marks;
+use parts::stages::not_idle;
 use parts::words::flush_word;
-use stages::not_idle;
 ghost use mathlib.Core.Path.{_≡_};
 ghost use mathlib.Core.Bool.{true, false};
 ghost use Prim.Native.Nat.{_<_};

@@ -1,5 +1,1 @@
 mod Turned
-mod While
-mod Reading
-mod Asking
-mod Rows

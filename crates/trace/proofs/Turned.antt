@@ -22,9 +22,9 @@ use Rattle.dtml.specs.Store.{Memory, memory, Store, store, fresh, recordAt, tx}
 use Rattle.dtml.specs.Checks.{notIdle}
 use Rattle.dtml.specs.Handed.{Left, turnLeft, eventLeft, callOne, callSystem, carry, isCrash, crashed, reach}
 use Rattle.dtml.proofs.Happens.{Counts, Counted, counted-so, refused-so, crash-marks}
-use Rattle.turn.specs.declared.Turn.{Turn}
-use Rattle.turn.specs.declared.Turn.the-variants as Turn
-use Rattle.turn.specs.Turning.{turnedOf}
+use Rattle.lines.specs.declared.turn.Turn.{Turn}
+use Rattle.lines.specs.declared.turn.Turn.the-variants as Turn
+use Rattle.lines.specs.Turning.{turnedOf}
 use Rattle.system.specs.declared.Event.{Event}
 use Rattle.system.specs.declared.Event.the-variants as Event
 use Rattle.system.specs.Healing.{happenedOf}

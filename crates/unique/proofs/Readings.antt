@@ -12,9 +12,9 @@ use Rattle.dtml.specs.Table.{Reply, reply}
 use Rattle.dtml.specs.Store.{Memory, Store}
 use Rattle.dtml.specs.Asked.{Outcome}
 use Rattle.dtml.specs.Handed.{Turned, no-turn, a-turn, Happened, nothing, a-flush, a-crash, some-lines}
-use Rattle.turn.specs.declared.Turn.{Turn}
-use Rattle.turn.specs.declared.Turn.the-variants as Turn
-use Rattle.turn.specs.Turning.{turnedOf}
+use Rattle.lines.specs.declared.turn.Turn.{Turn}
+use Rattle.lines.specs.declared.turn.Turn.the-variants as Turn
+use Rattle.lines.specs.Turning.{turnedOf}
 use Rattle.system.specs.declared.Event.{Event}
 use Rattle.system.specs.declared.Event.the-variants as Event
 use Rattle.system.specs.Healing.{happenedOf}

@@ -9,7 +9,7 @@ use contract.Conj.{conjR}
 use contract.Monad.{conj, fact, guard-conj, fact-mono}
 use Rattle.dtml.specs.declared.Tx.{Tx}
 use Rattle.dtml.specs.Store.{Memory, Store}
-use Rattle.turn.specs.declared.Turn.{Turn}
+use Rattle.lines.specs.declared.turn.Turn.{Turn}
 use Rattle.system.specs.declared.Event.{Event}
 use Rattle.machine.specs.declared.After.{After}
 use Rattle.machine.specs.declared.work.Worked.{Worked}
@@ -96,11 +96,11 @@ unique-outcomes 𝓤 =
       marks-count = (λ κs a. refl, λ H A mem run κs a g x y. both 𝓤 (result x y));
       marks-lowest = (λ κs a. refl, λ H A mem run κs a g x y. both 𝓤 (result x y));
       marks-stands-from = (λ κs a. refl, λ H A mem run κs a g x y. both 𝓤 (result x y));
-      stages-stage = (λ κs a. refl, λ H A mem run κs a g x y. both 𝓤 (result x y));
-      stages-is-fresh = (λ κs a. refl, λ H A mem run κs a g x y. both 𝓤 (result x y));
-      stages-is-ready = (λ κs a. refl, λ H A mem run κs a g x y. both 𝓤 (result x y));
-      stages-is-live = (λ κs a. refl, λ H A mem run κs a g x y. both 𝓤 (result x y));
-      stages-not-idle = (λ κs a. refl, λ H A mem run κs a g x y. both 𝓤 (result x y));
+      parts-stage = (λ κs a. refl, λ H A mem run κs a g x y. both 𝓤 (result x y));
+      parts-is-fresh = (λ κs a. refl, λ H A mem run κs a g x y. both 𝓤 (result x y));
+      parts-is-ready = (λ κs a. refl, λ H A mem run κs a g x y. both 𝓤 (result x y));
+      parts-is-live = (λ κs a. refl, λ H A mem run κs a g x y. both 𝓤 (result x y));
+      parts-not-idle = (λ κs a. refl, λ H A mem run κs a g x y. both 𝓤 (result x y));
       parts-number = (λ κs a. refl, λ H A mem run κs a g x y. both 𝓤 (result x y));
       parts-value = (λ κs a. refl, λ H A mem run κs a g x y. both 𝓤 (result x y));
       parts-unfit-rows = (λ κs a. refl, λ H A mem run κs a g x y. both 𝓤 (result x y));
@@ -111,13 +111,6 @@ unique-outcomes 𝓤 =
       parts-unfit-beside = (λ κs a. refl, λ H A mem run κs a g x y. both 𝓤 (result x y));
       parts-unfit-one = (λ κs a. refl, λ H A mem run κs a g x y. both 𝓤 (result x y));
       parts-flush-word = (λ κs a. refl, λ H A mem run κs a g x y. both 𝓤 (λ p q. ap (λ z. (tt, (tt, (z, (tt, tt))))) (p ∙ sym q)));
-      turn-refused = (λ κs a. refl, λ H A mem run κs a g x y. both 𝓤 (result x y));
-      turn-to = (λ κs a. refl, λ H A mem run κs a g x y. both 𝓤 (result x y));
-      turn-answered = (λ κs a. refl, λ H A mem run κs a g x y. both 𝓤 (result x y));
-      asks-begin = (λ κs a. refl, λ H A mem run κs a g x y. both 𝓤 (result x y));
-      asks-read = (λ κs a. refl, λ H A mem run κs a g x y. both 𝓤 (result x y));
-      asks-write = (λ κs a. refl, λ H A mem run κs a g x y. both 𝓤 (result x y));
-      asks-commit = (λ κs a. refl, λ H A mem run κs a g x y. both 𝓤 (result x y));
       lines-call-one = (λ κs a. refl, λ H A mem run κs a g x y. both 𝓤 (λ p q. ap (λ (z : Turn × Memory). (z .0, (z .1 .vol, (z .1 .pers, (z .1 .old, (z .1 .marks, (z .1 .glb, x .1 .1 .1 .1 .1 .1))))))) (turn-same (x .0) (y .0) p q)));
       system-call-system = (λ κs a. refl, λ H A mem run κs a g x y. both 𝓤 (λ p q. ap (λ (z : Event × Memory). (z .0, (z .1 .vol, (z .1 .pers, (tt, (z .1 .marks, (z .1 .glb, x .1 .1 .1 .1 .1 .1))))))) (event-same (x .0) (y .0) p q)));
       system-crash-tx = (λ κs a. refl, λ H A mem run κs a g x y. both 𝓤 (result x y));
@@ -148,11 +141,11 @@ unique-outcomes 𝓤 =
       calls-register-write = (λ κs a. refl, λ H A mem run κs a g x y. both 𝓤 (numbered x y));
       calls-register-commit = (λ κs a. refl, λ H A mem run κs a g x y. both 𝓤 (numbered x y));
       calls-register-step = (λ κs a. refl, λ H A mem run κs a g x y. both 𝓤 (λ p q. ap (λ (z : Given). five (tt, (z .value, tt)) z) (p ∙ sym q)));
-      events-register-make-fresh = (λ κs a. refl, λ H A mem run κs a g x y. both 𝓤 (numbered x y));
-      events-register-flush = (λ κs a. refl, λ H A mem run κs a g x y. both 𝓤 (numbered x y));
-      events-register-crash = (λ κs a. refl, λ H A mem run κs a g x y. both 𝓤 (numbered x y));
-      events-register-recover = (λ κs a. refl, λ H A mem run κs a g x y. both 𝓤 (numbered x y));
-      events-register-recover-up-to = (λ κs a. refl, λ H A mem run κs a g x y. both 𝓤 (λ p q. ap (λ (z : Given). five (tt, (z .value, tt)) z) (p ∙ sym q)));
+      calls-register-make-fresh = (λ κs a. refl, λ H A mem run κs a g x y. both 𝓤 (numbered x y));
+      calls-register-flush = (λ κs a. refl, λ H A mem run κs a g x y. both 𝓤 (numbered x y));
+      calls-register-crash = (λ κs a. refl, λ H A mem run κs a g x y. both 𝓤 (numbered x y));
+      calls-register-recover = (λ κs a. refl, λ H A mem run κs a g x y. both 𝓤 (numbered x y));
+      calls-register-recover-up-to = (λ κs a. refl, λ H A mem run κs a g x y. both 𝓤 (λ p q. ap (λ (z : Given). five (tt, (z .value, tt)) z) (p ∙ sym q)));
       text-put-byte = (λ κs a. refl, λ H A mem run κs a g x y. both 𝓤 (printed x y));
       text-put-decimal = (λ κs a. refl, λ H A mem run κs a g x y. both 𝓤 (printed x y));
       text-put-answer = (λ κs a. refl, λ H A mem run κs a g x y. both 𝓤 (printed x y));

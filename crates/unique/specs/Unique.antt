@@ -14,10 +14,7 @@ use denote.Triple.Entry.{Args, Res}
 use denote.Triple.End.{Fins, all}
 use denote.Triple.Clauses.{Ended, Lasts, atExit, Clauses}
 use Rattle.marks.proofs as marks
-use Rattle.stages.proofs as stages
 use Rattle.parts.proofs as parts
-use Rattle.turn.proofs as turn
-use Rattle.asks.proofs as asks
 use Rattle.lines.proofs as lines
 use Rattle.system.proofs as system
 use Rattle.records.proofs as records
@@ -25,7 +22,6 @@ use Rattle.machine.proofs as machine
 use Rattle.spelling.proofs as spelling
 use Rattle.numbers.proofs as numbers
 use Rattle.calls.proofs as calls
-use Rattle.events.proofs as events
 use Rattle.text.proofs as text
 use Rattle.trace.proofs as trace
 use Rattle.host.proofs as host
@@ -62,11 +58,11 @@ pub record UniqueOutcomes {M : Type 1} (𝓤 : URA M) : Type 2 where
   pub marks-lowest : Settled marks.lowest.ended (marks.lowest.clauses 𝓤)
   pub marks-stands-from : Settled marks.stands_from.ended (marks.stands_from.clauses 𝓤)
   -- what the calls share
-  pub stages-stage : Settled stages.stage.ended (stages.stage.clauses 𝓤)
-  pub stages-is-fresh : Settled stages.is_fresh.ended (stages.is_fresh.clauses 𝓤)
-  pub stages-is-ready : Settled stages.is_ready.ended (stages.is_ready.clauses 𝓤)
-  pub stages-is-live : Settled stages.is_live.ended (stages.is_live.clauses 𝓤)
-  pub stages-not-idle : Settled stages.not_idle.ended (stages.not_idle.clauses 𝓤)
+  pub parts-stage : Settled parts.stages.stage.ended (parts.stages.stage.clauses 𝓤)
+  pub parts-is-fresh : Settled parts.stages.is_fresh.ended (parts.stages.is_fresh.clauses 𝓤)
+  pub parts-is-ready : Settled parts.stages.is_ready.ended (parts.stages.is_ready.clauses 𝓤)
+  pub parts-is-live : Settled parts.stages.is_live.ended (parts.stages.is_live.clauses 𝓤)
+  pub parts-not-idle : Settled parts.stages.not_idle.ended (parts.stages.not_idle.clauses 𝓤)
   pub parts-number : Settled parts.answer.number.ended (parts.answer.number.clauses 𝓤)
   pub parts-value : Settled parts.answer.value.ended (parts.answer.value.clauses 𝓤)
   pub parts-unfit-rows : Settled parts.fit.unfit_rows.ended (parts.fit.unfit_rows.clauses 𝓤)
@@ -77,14 +73,7 @@ pub record UniqueOutcomes {M : Type 1} (𝓤 : URA M) : Type 2 where
   pub parts-unfit-beside : Settled parts.fit.unfit_beside.ended (parts.fit.unfit_beside.clauses 𝓤)
   pub parts-unfit-one : Settled parts.fit.unfit_one.ended (parts.fit.unfit_one.clauses 𝓤)
   pub parts-flush-word : Settled parts.words.flush_word.ended (parts.words.flush_word.clauses 𝓤)
-  pub turn-refused : Settled turn.refused.ended (turn.refused.clauses 𝓤)
-  pub turn-to : Settled turn.to.ended (turn.to.clauses 𝓤)
-  pub turn-answered : Settled turn.answered.ended (turn.answered.clauses 𝓤)
   -- the calls, on what they are handed
-  pub asks-begin : Settled asks.begin.ended (asks.begin.clauses 𝓤)
-  pub asks-read : Settled asks.read.ended (asks.read.clauses 𝓤)
-  pub asks-write : Settled asks.write.ended (asks.write.clauses 𝓤)
-  pub asks-commit : Settled asks.commit.ended (asks.commit.clauses 𝓤)
   pub lines-call-one : Settled lines.call_one.ended (lines.call_one.clauses 𝓤)
   pub system-call-system : Settled system.call_system.ended (system.call_system.clauses 𝓤)
   pub system-crash-tx : Settled system.crash_tx.ended (system.crash_tx.clauses 𝓤)
@@ -117,11 +106,11 @@ pub record UniqueOutcomes {M : Type 1} (𝓤 : URA M) : Type 2 where
   pub calls-register-write : Settled calls.register_write.ended (calls.register_write.clauses 𝓤)
   pub calls-register-commit : Settled calls.register_commit.ended (calls.register_commit.clauses 𝓤)
   pub calls-register-step : Settled calls.register_step.ended (calls.register_step.clauses 𝓤)
-  pub events-register-make-fresh : Settled events.register_make_fresh.ended (events.register_make_fresh.clauses 𝓤)
-  pub events-register-flush : Settled events.register_flush.ended (events.register_flush.clauses 𝓤)
-  pub events-register-crash : Settled events.register_crash.ended (events.register_crash.clauses 𝓤)
-  pub events-register-recover : Settled events.register_recover.ended (events.register_recover.clauses 𝓤)
-  pub events-register-recover-up-to : Settled events.register_recover_up_to.ended (events.register_recover_up_to.clauses 𝓤)
+  pub calls-register-make-fresh : Settled calls.events.register_make_fresh.ended (calls.events.register_make_fresh.clauses 𝓤)
+  pub calls-register-flush : Settled calls.events.register_flush.ended (calls.events.register_flush.clauses 𝓤)
+  pub calls-register-crash : Settled calls.events.register_crash.ended (calls.events.register_crash.clauses 𝓤)
+  pub calls-register-recover : Settled calls.events.register_recover.ended (calls.events.register_recover.clauses 𝓤)
+  pub calls-register-recover-up-to : Settled calls.events.register_recover_up_to.ended (calls.events.register_recover_up_to.clauses 𝓤)
   -- the trace
   pub text-put-byte : Settled text.put_byte.ended (text.put_byte.clauses 𝓤)
   pub text-put-decimal : Settled text.put_decimal.ended (text.put_decimal.clauses 𝓤)

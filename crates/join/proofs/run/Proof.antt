@@ -3,7 +3,7 @@
 use Prim.Native.Nat.{ℕ, suc, _+_, _<_, _^_}
 use native.Mathlib.Numerals.{add-one}
 use native.Mathlib.Omega.{arith}
-use mathlib.Core.Path.{_≡_, refl, sym, subst, _∙_}
+use mathlib.Core.Path.{_≡_, refl, _∙_}
 use mathlib.Core.List.{List, [], _∷_, _++_}
 use lib.ListN.{length, replicate}
 use lib.Dec.{T, lit<}
@@ -15,18 +15,18 @@ use base.Logic.{SProp, ent, emp}
 use base.Fml.{Lft, GName, Share, ftrue, fat, froom, flft}
 use prog.Memory.{Memory}
 use prog.Routine.{Routine}
-use prog.Wp.{Heap, Env, Spot, Tables, WpFn, spotOf, afterTurn}
+use prog.Wp.{Heap, Env, Tables, WpFn, spotOf, afterTurn}
 use ghost.Atoms.{Atoms, sem}
 use contract.Monad.{Fun, fact, factI}
 use contract.Running.{givenOf, tables, tablesOf}
 use types.Kit.{Given, Item, ‵, raw, _⊛_, ⋆, nth, _$_, _∵_, !, qed, by, move, use0, split, join, rewrite, fjoin, suffices, frame, done}
-use types.Part.{sub, look-in, rep}
-use types.Run.{Walks, Opd, look, store, init, forget, stop, fld, from, load, lit, of-opd, and-then, no-more, bin, assigns, assigns-last, land, returns, enter, params1, pass1, pass0}
+use types.Part.{rep}
+use types.Run.{Opd, look, store, init, forget, stop, from, lit, of-opd, and-then, no-more, bin, assigns, assigns-last, land, returns, enter, params1, pass1, pass0}
 use sound.WpLaws.{FmC, fmOf}
 use denote.RattleType.{owns}
 use denote.Laws.{Is}
 use denote.Plain.{uint-vals, uint-tells, uint-makes, uint-lawful}
-use denote.Array.{Array, arrayVal, array-vals, array-tells, array-typed}
+use denote.Array.{Array, arrayVal, array-typed}
 use denote.Builtin.{u8, u32, usize}
 use denote.Ref.{RefT}
 use denote.Slice.{sliceVal, MutSlice, Room, slice-vals, mut-slice-tells}
@@ -40,29 +40,26 @@ use denote.Triple.Spec.{Meets, tripleOf}
 use denote.Triple.Statement.{Triple}
 use denote.Triple.Table.{entered, cited}
 use denote.Triple.Walked.{says, Stays, stay-slice, walkOf, ends-at, goes-slice}
-use Rattle.dtml.specs.declared.Call.{Call}
-use Rattle.dtml.specs.declared.Phase.the-variants.{Fresh}
 use Rattle.dtml.specs.declared.Tx.{Tx}
-use Rattle.dtml.specs.Store.{tx}
-use Rattle.dtml.specs.Calls.{call as called-as, makeFresh}
+use Rattle.dtml.specs.Calls.{makeFresh}
 use Rattle.dtml.proofs.Answer as Answer′
 use Rattle.dtml.proofs.Answer.Laws as AnswerL
 use Rattle.dtml.proofs.Call as Call′
 use Rattle.dtml.proofs.Call.Laws as CallL
 use Rattle.dtml.proofs.Tx as T′
-use Rattle.dtml.proofs.Tx.Laws as TL
-use Rattle.records.proofs.Walk.{Cell, bare, has, lies, begins, leaves, sinks, becomes, held, sets, forgets, counts, meets}
-use Rattle.records.proofs.Lent.{vals, Row, array, word-ok, typed-array, array-records, records-room, owns-word}
-use Rattle.records.proofs.Own.{Mut, Closes, opens, closes, array-row, row-room}
-use Rattle.records.proofs.Calling.{comes, relends, borrows, within, Passed, of, word, Callee, ByValue, by-value}
+use Rattle.walks.proofs.Walk.{Cell, bare, has, lies, begins, leaves, sinks, becomes, held, sets, forgets, counts, meets}
+use Rattle.walks.proofs.Plain.{word-ok, owns-word}
+use Rattle.walks.proofs.Calling.{comes, relends, borrows, word, Callee, ByValue, by-value, field-of}
+use Rattle.walks.proofs.Own.{Mut, Closes, opens, closes, array-row, row-room}
+use Rattle.walks.proofs.Lent.{array, typed-array, array-records, records-room}
 use Rattle.machine.specs.declared.Held.{Held}
 use Rattle.machine.specs.declared.After.{After}
-use Rattle.machine.specs.Given.{storeOf, outcomeOf}
 use Rattle.machine.specs.Working.{freshHeld}
 use Rattle.machine.proofs.Held as H′
 use Rattle.machine.proofs.Held.Laws as HL
 use Rattle.machine.proofs.After as A′
 use Rattle.machine.proofs.After.Laws as AL
+use Rattle.machine.proofs.Caller.{value, given, Spelled, Given-so, held-is, given-ok, held-so, asked-so, held-in, Rows, store-of, left-as, Called, Blank, Calling, Spot, lent}
 use Rattle.machine.proofs.work.blank.Symbol as blank-def
 use Rattle.machine.proofs.work.blank.Symbol.{name as #blank}
 use Rattle.machine.proofs.work.blank.Met as blank-thm
@@ -74,8 +71,8 @@ use Rattle.machine.proofs.call.Symbol.{name as #call}
 use Rattle.machine.proofs.call.Met as call-thm
 use Rattle.text.specs.Buffer.{Buffer}
 use Rattle.join.specs.Join.{askedAt, textAt}
-use Rattle.join.proofs.Lending.{Rows, these-rows, Calling, lent, Telling, telling}
-use Rattle.join.proofs.Going.{rowsAt, heldAt, made, started, called, wrote, Stands, long-on, stands-on, counts-so}
+use Rattle.join.proofs.Lending.{Telling, telling}
+use Rattle.join.proofs.Going.{rowsAt, heldAt, zeros-and, made, started, called, wrote, Stands, long-on, stands-on, counts-so}
 use Rattle.join.proofs.nothing_held.Symbol as nothing-held-def
 use Rattle.join.proofs.nothing_held.Symbol.{name as #nothing-held}
 use Rattle.join.proofs.nothing_held.Met as nothing-held-thm
@@ -90,16 +87,7 @@ use Rattle.join.proofs.run as f
 use Rattle.join.proofs.run.Statement as stated
 use Rattle.join.proofs.run.Code as code
 
--- the callees, but for `tell`
-abbrev Blank : Callee (Unit {0}) (Unit {0})
-Blank = record {
-  Rs = [];
-  Q = Row;
-  vals = array-vals vals;
-  tells = array-tells T′.the-row vals (LL.tells T′.the-type TL.the-laws) 64;
-  says = λ _ _ r _. r ≡ replicate 64 (tx 0 Fresh);
-}
-
+-- the callees, but for `tell` and those that other callers have
 abbrev Nothing : Callee (Unit {0}) (Unit {0})
 Nothing = record { Rs = []; Q = H′.the-row; vals = LL.vals H′.the-type HL.the-laws; tells = LL.tells H′.the-type HL.the-laws; says = λ _ _ r _. r ≡ freshHeld }
 
@@ -112,47 +100,17 @@ Fresh-store = record {
   Q = A′.the-row;
   vals = LL.vals A′.the-type AL.the-laws;
   tells = LL.tells A′.the-type AL.the-laws;
-  says = λ w a r z. outcomeOf (z .vol) (z .pers) (z .old) (z .txs) r ≡ makeFresh (storeOf (w .vol) (w .pers) (w .old) (a .0) (w .txs));
+  says = λ w a r z. left-as z r ≡ makeFresh (store-of w (a .0));
 }
 
-abbrev Called : Callee Rows Rows
-Called = record {
-  Rs = H′.the-row ∷ Call′.the-row ∷ [];
-  Q = A′.the-row;
-  vals = LL.vals A′.the-type AL.the-laws;
-  tells = LL.tells A′.the-type AL.the-laws;
-  says = λ w a r z. outcomeOf (z .vol) (z .pers) (z .old) (z .txs) r ≡ called-as (storeOf (w .vol) (w .pers) (w .old) (a .0) (w .txs)) (a .1 .0);
-}
-
--- the machine values of what is held and of what a call gave back
-abbrev value : Held → Val
-value h = only (LL.vals H′.the-type HL.the-laws h)
-
-abbrev given : After → Val
-given a = only (LL.vals A′.the-type AL.the-laws a)
-
-answer-is : (a : After) → Is A′.the-row a (given a ∷ []) → Is Answer′.the-row (a .answer) (only (EL.vals Answer′.the-type AnswerL.the-laws (a .answer)) ∷ [])
+answer-is : (a : After) → Given-so a → Is Answer′.the-row (a .answer) (only (EL.vals Answer′.the-type AnswerL.the-laws (a .answer)) ∷ [])
 answer-is a is = LL.owed A′.the-type AL.the-laws a (given a ∷ []) is .0
 
-held-is : (a : After) → Is A′.the-row a (given a ∷ []) → Is H′.the-row (a .held) (value (a .held) ∷ [])
-held-is a is = LL.owed A′.the-type AL.the-laws a (given a ∷ []) is .1 .0
-
-module _ {M : Type 1} (𝓤 : URA M) (H : Heap 𝓤) (A : Atoms 𝓤) (W : Given 𝓤 H A) where
-  held-ok : (h : Held) → Is H′.the-row h (value h ∷ []) → T (hasTy HL.mir (value h)) × WT (value h)
-  held-ok h is = LL.lawful H′.the-type HL.the-laws 𝓤 H A W .typed h (value h ∷ []) is .0
-
-  given-ok : (a : After) → Is A′.the-row a (given a ∷ []) → T (hasTy AL.mir (given a)) × WT (given a)
-  given-ok a is = LL.lawful A′.the-type AL.the-laws 𝓤 H A W .typed a (given a ∷ []) is .0
-
--- a field of what a call gave back, in local i, which is entry n
+-- the answer, in what a call gave back, in local i, which is entry n
 module _ {M : Type 1} {𝓤 : URA M} {H : Heap 𝓤} {A : Atoms 𝓤} {K : Type 0} {W : Given 𝓤 H A} {Γ : List (Item 𝓤)} {E : Env 𝓤 H} {i l : ℕ} where
   answer-in : K → (n : ℕ) (a : After) → spotOf 𝓤 H E i ≡ (AL.mir, l, 0) → nth 𝓤 H A n Γ ≡ ‵ (fat fullShare AL.mir l 0 (given a))
       → Opd K W Γ E (copy (place i (field 0 ∷ []))) (only (EL.vals Answer′.the-type AnswerL.the-laws (a .answer)))
-  answer-in t n a at e = load t (from t (subst (λ (sp : Spot 𝓤 H). Walks K W Γ E sp (field 0 ∷ []) (AnswerL.mir, l, 0)) (sym at) (fld t refl (stop t)))) (look-in t n (sub t 0 refl (within t e)))
-
-  held-in : K → (n : ℕ) (a : After) → spotOf 𝓤 H E i ≡ (AL.mir, l, 0) → nth 𝓤 H A n Γ ≡ ‵ (fat fullShare AL.mir l 0 (given a))
-      → Opd K W Γ E (copy (place i (field 1 ∷ []))) (value (a .held))
-  held-in t n a at e = load t (from t (subst (λ (sp : Spot 𝓤 H). Walks K W Γ E sp (field 1 ∷ []) (HL.mir, l, 16)) (sym at) (fld t refl (stop t)))) (look-in t n (sub t 1 refl (within t e)))
+  answer-in t n a at e = field-of t n 0 at e tt
 
 abbrev zeros : Val
 zeros = arrayVal (replicate 4 (vint w32 0))
@@ -198,11 +156,21 @@ module _ {M : Type 1} (𝓤 : URA M) (H : Heap 𝓤) (A : Atoms 𝓤) (W : Given
   words-room : (l : ℕ) (xs : List ℕ) → length xs ≡ 4 → ent 𝓤 (sem 𝓤 H A (row u32 fullShare xs l 0)) (H .room (tyArray (tyInt w32) 4) l 0)
   words-room l xs e = row-room u32 l 0 𝓤 H A W (uint-vals w32) (uint-tells w32) 4 xs e
 
-  abbrev held-so : (h : Held) → Is H′.the-row h (value h ∷ []) → Passed 𝓤 H A H′.the-row
-  held-so h is = of 𝓤 H A H′.the-row (LL.makes H′.the-type HL.the-plain 𝓤 H A) h (value h) is
+  held-ok : (h : Held) → Spelled h → T (hasTy HL.mir (value h)) × WT (value h)
+  held-ok h is = LL.lawful H′.the-type HL.the-laws 𝓤 H A W .typed h (value h ∷ []) is .0
 
-  abbrev asked-so : (a : Call) → Is Call′.the-row a (only (EL.vals Call′.the-type CallL.the-laws a) ∷ []) → Passed 𝓤 H A Call′.the-row
-  asked-so a is = of 𝓤 H A Call′.the-row (EL.makes Call′.the-type CallL.the-plain 𝓤 H A) a (only (EL.vals Call′.the-type CallL.the-laws a)) is
+  -- a word row at l, and the records
+  abbrev words-at : ℕ → Spot
+  words-at l = ((l, 0), 4)
+
+  abbrev records-at : ℕ → Spot
+  records-at l = ((l, 0), 64)
+
+  abbrev four : Room u32 4
+  four = (lit< tt, lit< tt)
+
+  abbrev all : Room T′.the-row 64
+  all = (lit< tt, lit< tt)
 
   -- the locals after i calls, when the place of the next call is j, and the rest
   abbrev cells-now : ℕ → ℕ → List Cell
@@ -232,14 +200,14 @@ module _ {M : Type 1} (𝓤 : URA M) (H : Heap 𝓤) (A : Atoms 𝓤) (W : Given
       becomes ! 5 (Records l₅ xs) refl (array-records 𝓤 H A W xs _ (e .0) l₅) $
       borrows ! 13 14 refl tt tt tt $ borrows ! 15 16 refl tt tt tt $ borrows ! 17 18 refl tt tt tt $ borrows ! 19 20 refl tt tt tt $
       comes ! fm (by-value Nothing 𝓤 H A W (𝓣 .C #nothing-held) (fm #nothing-held) known-nothing _ tt) (λ _. no-more !) (λ h e₁.
-      land ! (from ! (stop !)) (init ! 21 refl (held-ok 𝓤 H A W h (e₁ .0))) $ move ! (2 ∷ 3 ∷ 4 ∷ 5 ∷ []) $ join ! $ join ! $ join ! $
+      land ! (from ! (stop !)) (init ! 21 refl (held-ok h (e₁ .0))) $ move ! (2 ∷ 3 ∷ 4 ∷ 5 ∷ []) $ join ! $ join ! $ join ! $
       -- [the four rows; local i at i + 1 before them, and at i - 3 after them]
-      comes ! fm (lent 𝓤 H A W (𝓣 .C #make-fresh) (fm #make-fresh) Fresh-store known-fresh (held-so h (e₁ .0), tt) l₂ l₃ l₄ l₅ (these-rows (replicate 4 0) (replicate 4 0) (replicate 4 0) xs)
-      (record { vol = refl; pers = refl; old = refl; txs = e .0 .1 .0 .1 }))
+      comes ! fm (lent 𝓤 H A W (𝓣 .C #make-fresh) (fm #make-fresh) Fresh-store known-fresh (held-so 𝓤 H A h (value h) (e₁ .0), tt) (words-at l₂) (words-at l₃) (words-at l₄) (records-at l₅) (zeros-and xs)
+      (record { vol = refl; pers = refl; old = refl; txs = e .0 .1 .0 .1 }) four four four all)
       (λ _. and-then ! (held ! 11 refl) (and-then ! (held ! 13 refl) (and-then ! (held ! 15 refl) (and-then ! (held ! 17 refl) (and-then ! (held ! 18 refl) (no-more !)))))) (λ z e₂.
       let left = made (z .1) (z .0) h xs (e .1) (e₂ .2) in
       land ! (from ! (stop !)) (init ! 3 refl (given-ok 𝓤 H A W (z .0) (e₂ .0))) $ split ! $ split ! $ split ! $ move ! (4 ∷ 5 ∷ 0 ∷ 1 ∷ 2 ∷ 3 ∷ []) $
-      sets ! (of-opd ! (held-in ! 6 (z .0) refl refl)) 7 refl (held-ok 𝓤 H A W (z .0 .held) (held-is (z .0) (e₂ .0))) $
+      sets ! (of-opd ! (held-in ! 6 (z .0) refl refl)) 7 refl (held-ok (z .0 .held) (held-is (z .0) (e₂ .0))) $
       sets ! (of-opd ! (lit ! tt)) 8 refl (word-ok (lit< tt)) $ sets ! (of-opd ! (lit ! tt)) 9 refl (word-ok (lit< tt)) $
       rewrite ! 2 (Words l₂) (left .vol) refl $ rewrite ! 3 (Words l₃) (left .pers) refl $ rewrite ! 4 (Words l₄) (left .old) refl $ rewrite ! 5 (Records l₅) (left .txs) refl $
       rewrite ! 7 (λ (g : Held). ‵ (fat fullShare HL.mir l₇ 0 (value g))) (left .held) refl $
@@ -254,7 +222,8 @@ module _ {M : Type 1} (𝓤 : URA M) (H : Heap 𝓤) (A : Atoms 𝓤) (W : Given
       comes ! fm (by-value AskedAt 𝓤 H A W (𝓣 .C #asked-at) (fm #asked-at) known-asked _ (word 𝓤 H A W i (omega arith), tt)) (λ _. and-then ! (held ! 9 refl) (no-more !)) (λ asked e₃.
       land ! (from ! (stop !)) (init ! 10 refl (EL.lawful Call′.the-type CallL.the-laws 𝓤 H A W tt .typed asked _ (e₃ .0) .0)) $
       borrows ! 23 24 refl tt tt tt $ borrows ! 25 26 refl tt tt tt $ borrows ! 27 28 refl tt tt tt $ borrows ! 29 30 refl tt tt tt $ move ! (2 ∷ 3 ∷ 4 ∷ 5 ∷ []) $ join ! $ join ! $ join ! $
-      comes ! fm (lent 𝓤 H A W (𝓣 .C #call) (fm #call) Called known-call (held-so (heldAt i) (k .held), (asked-so asked (e₃ .0), tt)) l₂ l₃ l₄ l₅ (rowsAt i) (k .long))
+      comes ! fm (lent 𝓤 H A W (𝓣 .C #call) (fm #call) Called known-call (held-so 𝓤 H A (heldAt i) (value (heldAt i)) (k .held), (asked-so 𝓤 H A asked _ (e₃ .0), tt))
+      (words-at l₂) (words-at l₃) (words-at l₄) (records-at l₅) (rowsAt i) (k .long) four four four all)
       (λ _. and-then ! (held ! 21 refl) (and-then ! (held ! 23 refl) (and-then ! (held ! 25 refl) (and-then ! (held ! 27 refl) (and-then ! (held ! 4 refl) (and-then ! (held ! 7 refl)
       (no-more !))))))) (λ w e₄.
       let on = called i (w .1) (w .0) asked (e₃ .1) (e₄ .2) in
@@ -268,7 +237,7 @@ module _ {M : Type 1} (𝓤 : URA M) (H : Heap 𝓤) (A : Atoms 𝓤) (W : Given
       (and-then ! (held ! 34 refl) (no-more !)))))) (λ u e₅.
       let more = wrote i (w .1) (w .0) asked (e₃ .1) (e₄ .2) ys (u .1) (u .0) (e₅ .2) in
       land ! (from ! (stop !)) (store ! 8 refl (word-ok (e₅ .0))) $ split ! $ sinks ! 1 $ move ! (1 ∷ 2 ∷ 3 ∷ 0 ∷ []) $
-      assigns ! (of-opd ! (held-in ! 11 (w .0) refl refl)) (from ! (stop !)) (store ! 7 refl (held-ok 𝓤 H A W (w .0 .held) (held-is (w .0) (e₄ .0)))) $
+      assigns ! (of-opd ! (held-in ! 11 (w .0) refl refl)) (from ! (stop !)) (store ! 7 refl (held-ok (w .0 .held) (held-is (w .0) (e₄ .0)))) $
       rewrite ! 7 (λ (g : Held). ‵ (fat fullShare HL.mir l₇ 0 (value g))) (on .held) refl $
       rewrite ! 8 (λ (v : Buffer). ‵ (fat fullShare (tyInt w64) l₈ 0 (vint w64 (v .at)))) more refl $
       rewrite ! 71 (λ (v : Buffer). ‵ (row u8 fullShare (v .bytes) b o)) more refl $

@@ -17,8 +17,7 @@ use ghost.Atoms.{Atoms}
 use contract.Monad.{Fun}
 use contract.Running.{givenOf, tables, tablesOf}
 use types.Kit.{Given, ⋆, _$_, _∵_, !, qed, move, suffices, frame, done}
-use types.Part.{whole, sub, look-in}
-use types.Run.{look, store, init, stop, fld, from, load, of-opd, and-then, no-more, land, returns, enter, params1, pass1, pass0}
+use types.Run.{look, store, init, stop, from, of-opd, and-then, no-more, land, returns, enter, params1, pass1, pass0}
 use sound.WpLaws.{FmC, fmOf}
 use denote.Laws.{Is}
 use denote.Plain.{uint-vals, uint-tells, bool-vals, bool-tells, nothing-vals, nothing-tells}
@@ -43,8 +42,10 @@ use Rattle.dtml.proofs.Call.Laws as CallL
 use Rattle.dtml.proofs.Tx as T
 use Rattle.dtml.proofs.Tx.Laws as T′
 use Rattle.dtml.specs.Handed.{slotOf}
-use Rattle.records.proofs.Walk.{has, begins, leaves, sinks, held, sets}
-use Rattle.records.proofs.Lent.{vals, Fits, typed, word-ok}
+use Rattle.walks.proofs.Walk.{has, begins, leaves, sinks, held, sets}
+use Rattle.walks.proofs.Plain.{word-ok}
+use Rattle.walks.proofs.Calling.{comes, relends, count, Passed, of, word, flag, Callee, ByValue, by-value, field-of}
+use Rattle.walks.proofs.Lent.{vals, Fits, typed}
 use Rattle.records.proofs.unfit.Symbol as unfit-def
 use Rattle.records.proofs.unfit.Symbol.{name as #unfit}
 use Rattle.records.proofs.unfit.Met as unfit-thm
@@ -60,8 +61,8 @@ use Rattle.records.proofs.crash_if.Met as crash-if-thm
 use Rattle.machine.specs.declared.Held.{Held}
 use Rattle.machine.specs.Working.{worked, workedOf}
 use Rattle.machine.proofs.Whole.{called-whole}
-use Rattle.records.proofs.Calling.{comes, relends, count, Passed, of, word, flag, Callee, ByValue, by-value}
 use Rattle.machine.proofs.Lending.{Rows, Words, Row, Triple-of, Reading, lent, Writing, lent-again, Handing, handed, Ended-at, passed-on, ends, four-meets}
+use Rattle.machine.proofs.Caller.{held-so, asked-so}
 use Rattle.machine.proofs.Held as H′
 use Rattle.machine.proofs.Held.Laws as HL
 use Rattle.machine.proofs.After as A′
@@ -123,12 +124,6 @@ module _ {M : Type 1} (𝓤 : URA M) (H : Heap 𝓤) (A : Atoms 𝓤) (W : Given
   abbrev start : List Val
   start = passed-on 𝓤 H A W (H′.the-row ∷ Call′.the-row ∷ []) A′.the-row (f.clauses 𝓤 H A mem run) z (h, (asked, tt)) (hv ∷ [], (av ∷ [], tt)) tt
 
-  abbrev the-held : Passed 𝓤 H A H′.the-row
-  the-held = of 𝓤 H A H′.the-row (LL.makes H′.the-type HL.the-plain 𝓤 H A) h hv h-is
-
-  abbrev the-call : Passed 𝓤 H A Call′.the-row
-  the-call = of 𝓤 H A Call′.the-row (EL.makes Call′.the-type CallL.the-plain 𝓤 H A) asked av asked-is
-
   abbrev a-record : (t : Tx) → Fits t → Passed 𝓤 H A T.the-row
   a-record t is = of 𝓤 H A T.the-row (LL.makes T.the-type T′.the-plain 𝓤 H A) t (only (vals t)) is
 
@@ -141,7 +136,7 @@ module _ {M : Type 1} (𝓤 : URA M) (H : Heap 𝓤) (A : Atoms 𝓤) (W : Given
       pass1 ! (init ! 5 refl (tt, (tt, (record { fits = z .r₂ .0 }, tt)))) $ pass1 ! (init ! 6 refl (tt, (tt, (record { fits = z .r₃ .0 }, tt)))) $
       pass1 ! (init ! 7 refl (LL.lawful H′.the-type HL.the-laws 𝓤 H A W .typed h _ h-is .0)) $
       pass1 ! (init ! 8 refl (EL.lawful Call′.the-type CallL.the-laws 𝓤 H A W tt .typed asked _ asked-is .0)) $ pass0 ! $
-      comes ! fm (by-value Slot 𝓤 H A W (C #slot) (fm #slot) known-slot _ (the-call, tt))
+      comes ! fm (by-value Slot 𝓤 H A W (C #slot) (fm #slot) known-slot _ (asked-so 𝓤 H A asked av asked-is, tt))
       (λ _. and-then ! (held ! 8 refl) (no-more !)) (λ i e. land ! (from ! (stop !)) (init ! 9 refl (word-ok (e .0 .1))) $
       relends ! 6 13 14 refl refl tt tt (z .r₃ .0) $ sets ! (of-opd ! (count ! 3 refl refl)) 15 refl (word-ok (z .r₀ .0)) $
       comes ! fm (lent 𝓤 H A W (C #unfit) (fm #unfit) z Unfit known-unfit (word 𝓤 H A W (length (now (z .vol))) (z .r₀ .0), tt))
@@ -151,7 +146,7 @@ module _ {M : Type 1} (𝓤 : URA M) (H : Heap 𝓤) (A : Atoms 𝓤) (W : Given
       (λ _. and-then ! (held ! 17 refl) (and-then ! (held ! 9 refl) (no-more !))) (λ t e₂. land ! (from ! (stop !)) (init ! 11 refl (typed 𝓤 H A W t (e₂ .0))) $
       relends ! 3 18 19 refl refl tt tt (z .r₀ .0) $ relends ! 4 20 21 refl refl tt tt (z .r₁ .0) $ relends ! 5 22 23 refl refl tt tt (z .r₂ .0) $
       move ! (1 ∷ 0 ∷ []) $
-      comes ! fm (handed 𝓤 H A W (C #work) (fm #work) z Work known-work (the-held, (flag 𝓤 H A W bad, (a-record t (e₂ .0), (the-call, tt)))))
+      comes ! fm (handed 𝓤 H A W (C #work) (fm #work) z Work known-work (held-so 𝓤 H A h hv h-is, (flag 𝓤 H A W bad, (a-record t (e₂ .0), (asked-so 𝓤 H A asked av asked-is, tt)))))
       (λ _. and-then ! (held ! 19 refl) (and-then ! (held ! 21 refl) (and-then ! (held ! 23 refl) (and-then ! (held ! 7 refl) (and-then ! (held ! 10 refl)
       (and-then ! (held ! 11 refl) (and-then ! (held ! 8 refl) (no-more !)))))))) (λ x e₃.
       land ! (from ! (stop !)) (init ! 12 refl (LL.lawful W′.the-type WL.the-laws 𝓤 H A W .typed (x .0) _ (e₃ .0) .0)) $
@@ -159,13 +154,13 @@ module _ {M : Type 1} (𝓤 : URA M) (H : Heap 𝓤) (A : Atoms 𝓤) (W : Given
       comes ! fm (lent-again 𝓤 H A W (C #put) (fm #put) z Put known-put
       (word 𝓤 H A W i (e .0 .1), (a-record (x .0 .tx) (LL.owed W′.the-type WL.the-laws (x .0) _ (e₃ .0) .1 .0), tt)) (now (z .txs)) refl)
       (λ _. and-then ! (held ! 26 refl) (and-then ! (held ! 9 refl)
-      (and-then ! (load ! (from ! (fld ! refl (stop !))) (look-in ! 12 (sub ! 1 refl (whole !)))) (no-more !))))
+      (and-then ! (field-of ! 12 1 refl refl tt) (no-more !))))
       (λ y e₄. land ! (from ! (stop !)) (init ! 24 refl (tt, tt)) $
       relends ! 6 27 28 refl refl tt tt (z .r₃ .0) $
       comes ! fm (lent-again 𝓤 H A W (C #crash-if) (fm #crash-if) z CrashIf known-crash (flag 𝓤 H A W (x .0 .crashed), tt) (y .1) (e₄ .1 .0))
-      (λ _. and-then ! (held ! 28 refl) (and-then ! (load ! (from ! (fld ! refl (stop !))) (look-in ! 12 (sub ! 2 refl (whole !)))) (no-more !)))
+      (λ _. and-then ! (held ! 28 refl) (and-then ! (field-of ! 12 2 refl refl tt) (no-more !)))
       (λ y₁ e₅. land ! (from ! (stop !)) (store ! 24 refl (tt, tt)) $
-      sets ! (of-opd ! (load ! (from ! (fld ! refl (stop !))) (look-in ! 12 (sub ! 0 refl (whole !))))) 2 refl
+      sets ! (of-opd ! (field-of ! 12 0 refl refl tt)) 2 refl
       (LL.lawful A′.the-type AL.the-laws 𝓤 H A W .typed (x .0 .after) _ (LL.owed W′.the-type WL.the-laws (x .0) _ (e₃ .0) .0) .0) $
       returns ! (look ! 2 refl) $ move ! (1 ∷ 0 ∷ []) $ sinks ! 2 $
       leaves ! (has _ ∷ has _ ∷ has _ ∷ has _ ∷ has _ ∷ has _ ∷ has _ ∷ has _ ∷ has _ ∷ has _ ∷ has _ ∷ has _ ∷ has _ ∷ has _ ∷ has _ ∷ has _ ∷ has _ ∷

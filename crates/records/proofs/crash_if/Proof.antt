@@ -1,7 +1,7 @@
 -- `records::crash_if` meets its contract: a walk of its MIR. After i turns the first i records of the crashed row stand over those of the opened row; with no
 -- turn it is the row as it was, and after as many turns as it is long the crashed one.
 use mathlib.Core.Path.{_≡_, refl, sym, _∙_, ap, subst}
-use Prim.Native.Nat.{ℕ, _+_, _≤_, _<_, _*_, _^_}
+use Prim.Native.Nat.{ℕ, _+_, _≤_, _<_, _^_}
 use native.Mathlib.Numerals.{add-one}
 use native.Mathlib.Omega.{arith}
 use mathlib.Core.Bool.{Bool}
@@ -28,7 +28,6 @@ use denote.Plain.{bool-vals, bool-tells}
 use denote.Builtin.{bool}
 use denote.Ref.{RefT}
 use denote.Slice.{sliceVal, MutSlice, slice-vals, mut-slice-tells}
-use denote.Index.{row}
 use denote.Signature.{plain}
 use denote.Steps.{nothing}
 use denote.Triple.Entry.{Vals, onEntry}
@@ -47,9 +46,11 @@ use Rattle.system.proofs.crash_tx.Met as crash-tx-thm
 use Rattle.records.proofs.bounds.all_if.Symbol as all-if
 use Rattle.records.proofs.bounds.all_if.Met as all-if-thm
 use Rattle.records.proofs.Over.{over, over-length, all-if-le, crashes-length, crash-next, crashed-if}
-use Rattle.records.proofs.Walk.{bare, has, begins, leaves, sinks, held, sets, gets, counts, meets}
-use Rattle.records.proofs.Lent.{Room, word, word-ok, slice-ok, records, ref, Mut, Closes, typed, store-elem, fetches, start, count, opens, closes, owns-flag, owns-unit}
-use Rattle.records.proofs.Calls.{AllIf, CrashTx, asks-all-if, asks-crash-tx}
+use Rattle.walks.proofs.Walk.{bare, has, begins, leaves, sinks, held, sets, gets, counts, meets}
+use Rattle.walks.proofs.Plain.{word, word-ok, owns-flag, owns-unit}
+use Rattle.walks.proofs.Calling.{start, count, word as a-word, flag, ByValue, by-value, comes}
+use Rattle.walks.proofs.Lent.{Room, slice-ok, within-room, records, ref, Mut, Closes, typed, store-elem, fetches, opens, closes, a-record}
+use Rattle.records.proofs.Calls.{AllIf, CrashTx}
 use Rattle.records.proofs.crash_if.Key.{name as #records·crash-if}
 use Rattle.records.proofs.crash_if as f
 use Rattle.records.proofs.crash_if.Statement as stated
@@ -93,8 +94,8 @@ module _ {M : Type 1} (𝓤 : URA M) (H : Heap 𝓤) (A : Atoms 𝓤) (W : Given
     ends-as : turned m ≡ pick crashed (crashTxs ys) ys
     ends-as = ap turned m-is ∙ crashed-if crashed ys
 
-  walk : (𝓣 : Tables 𝓤 H) → FmC 𝓤 H (W .laws) (𝓣 .C) → Triple 𝓤 (𝓣 .C all-if.name) (AllIf 𝓤 H A mem run)
-      → Triple 𝓤 (𝓣 .C crash-tx.name) (CrashTx 𝓤 H A mem run)
+  walk : (𝓣 : Tables 𝓤 H) → FmC 𝓤 H (W .laws) (𝓣 .C) → Triple 𝓤 (𝓣 .C all-if.name) (ByValue AllIf 𝓤 H A)
+      → Triple 𝓤 (𝓣 .C crash-tx.name) (ByValue CrashTx 𝓤 H A)
       → ent 𝓤 (onEntry 𝓤 H A f.signature (κ, tt) (q, tt) x at) (WpFn 𝓤 H (𝓣 .C) (𝓣 .Λ) code.function (s ∷ vbool crashed ∷ []) Post)
   unfolding afterTurn
   walk 𝓣 fm known-all-if known-crash-tx =
@@ -104,8 +105,8 @@ module _ {M : Type 1} (𝓤 : URA M) (H : Heap 𝓤) (A : Atoms 𝓤) (W : Given
       move ! (26 ∷ 27 ∷ []) $ opens ! tt κ q b o γ ys $ sinks ! 2 $
       -- [_0 0; …; _12 12; that each dies 13 …; the records 26; what closes them 27]
       sets ! (of-opd ! (count ! 1 refl refl)) 5 refl (word-ok (room .0)) $
-      asks-all-if ! fm mem run known-all-if crashed (length ys) (room .0) (and-then ! (held ! 2 refl) (and-then ! (held ! 5 refl) (no-more !)))
-      (λ m m-is m-fits. gets ! 3 refl (word-ok m-fits) $
+      comes ! fm (by-value AllIf 𝓤 H A W (𝓣 .C all-if.name) (fm all-if.name) known-all-if _ (flag 𝓤 H A W crashed, (a-word 𝓤 H A W (length ys) (room .0), tt)))
+      (λ _. and-then ! (held ! 2 refl) (and-then ! (held ! 5 refl) (no-more !))) (λ m e. let m-is = e .1 in gets ! 3 refl (word-ok (e .0 .1)) $
       sets ! (of-opd ! (lit ! tt)) 4 refl (word-ok (lit< tt)) $
       counts ! 𝓣 m
       (λ i. bare ∷ has s ∷ has (vbool crashed) ∷ has (vint w64 m) ∷ has (vint w64 i) ∷ has (vint w64 (length ys)) ∷ [])
@@ -113,20 +114,20 @@ module _ {M : Type 1} (𝓤 : URA M) (H : Heap 𝓤) (A : Atoms 𝓤) (W : Given
       (λ i. bin ! (held ! 4 refl) (held ! 3 refl) tt) 6 (λ i. refl) (λ z. tt)
       (λ i l.
       let in-ys : i < length ys = omega (arith, within m m-is) in
-      let small : i * 16 < 2 ^ 64 = omega (arith, room .1) in
+      let small = within-room in-ys room in
       let next : i + 1 < 2 ^ 64 = omega (arith, room .0) in
       let here : i < length (turned i) = omega (arith, long i (omega arith)) in
       sets ! (bin ! (held ! 4 refl) (lit ! tt) (record { fits = small })) 8 refl (word-ok small) $
       sets ! (bin ! (start ! 1 refl refl) (held ! 8 refl) tt) 9 refl (tt, tt) $
       fetches ! 26 fullShare (turned i) i b o refl here 9 refl 10 refl refl (λ g.
-      asks-crash-tx ! fm mem run known-crash-tx (recordAt (turned i) i) g (and-then ! (held ! 10 refl) (no-more !))
-      (λ r r-is r-fits. gets ! 7 refl (typed 𝓤 H A W r r-fits) $
+      comes ! fm (by-value CrashTx 𝓤 H A W (𝓣 .C crash-tx.name) (fm crash-tx.name) known-crash-tx _ (a-record 𝓤 H A (recordAt (turned i) i) g, tt))
+      (λ _. and-then ! (held ! 10 refl) (no-more !)) (λ r e₁. gets ! 7 refl (typed 𝓤 H A W r (e₁ .0)) $
       sets ! (bin ! (held ! 4 refl) (lit ! tt) (record { fits = small })) 11 refl (word-ok small) $
       sets ! (bin ! (start ! 1 refl refl) (held ! 11 refl) tt) 12 refl (tt, tt) $
-      assigns ! (of-opd ! (held ! 7 refl)) (from ! (hop ! (look ! 12 refl) (stop !))) (store-elem ! 26 (turned i) i b o r refl here r-fits) $
+      assigns ! (of-opd ! (held ! 7 refl)) (from ! (hop ! (look ! 12 refl) (stop !))) (store-elem ! 26 (turned i) i b o r refl here (e₁ .0)) $
       assigns-last ! (bin ! (held ! 4 refl) (lit ! tt) (record { fits = next })) (from ! (stop !)) (store ! 4 refl (word-ok next)) $
       rewrite ! 4 (λ (j : ℕ). ‵ (fat fullShare word l₄ 0 (vint w64 j))) (add-one i) refl $
-      rewrite ! 26 (λ (zs : List Tx). ‵ (records fullShare zs b o)) (ap (set (turned i) i) r-is ∙ crash-next ys i in-ys) refl $
+      rewrite ! 26 (λ (zs : List Tx). ‵ (records fullShare zs b o)) (ap (set (turned i) i) (e₁ .1) ∙ crash-next ys i in-ys) refl $
       forget ! 6 refl $ forget ! 7 refl $ forget ! 8 refl $ forget ! 9 refl $ forget ! 10 refl $ forget ! 11 refl $ forget ! 12 refl $ done !)))
       (sets ! (of-opd ! (unit-lit !)) 0 refl (tt, tt) $
       move ! (26 ∷ 27 ∷ []) $ closes ! tt κ q b o γ ys (turned m) (long m (within m m-is)) room $ sinks ! 2 $ returns ! (look ! 0 refl) $
@@ -134,7 +135,7 @@ module _ {M : Type 1} (𝓤 : URA M) (H : Heap 𝓤) (A : Atoms 𝓤) (W : Given
       by ! (exits (turned m) (ends-as m m-is) (long m (within m m-is))))))
 
 crash-if-meets : {M : Type 1} (𝓤 : URA M) (H : Heap 𝓤) (A : Atoms 𝓤) (W : Given 𝓤 H A) (mem : Memory → SProp 𝓤) (run : Routine → Fun 𝓤)
-    (𝓣 : Tables 𝓤 H) → Triple 𝓤 (𝓣 .C all-if.name) (AllIf 𝓤 H A mem run) → Triple 𝓤 (𝓣 .C crash-tx.name) (CrashTx 𝓤 H A mem run)
+    (𝓣 : Tables 𝓤 H) → Triple 𝓤 (𝓣 .C all-if.name) (ByValue AllIf 𝓤 H A) → Triple 𝓤 (𝓣 .C crash-tx.name) (ByValue CrashTx 𝓤 H A)
     → Meets 𝓤 H A f.signature (WpFn 𝓤 H (𝓣 .C) (𝓣 .Λ) code.function) (f.spec 𝓤 H A mem run)
 crash-if-meets 𝓤 H A W mem run 𝓣 known-all-if known-crash-tx =
     meets 𝓤 H A W f.ended stayed (f.clauses 𝓤 H A mem run) 𝓣 code.function
@@ -149,7 +150,7 @@ crash-if-spec 𝓤 H 𝓜 𝓖 𝓡 =
     entered 𝓤 H (tripleOf 𝓤 H (𝓖 .A) f.signature (f.spec 𝓤 H (𝓖 .A) (𝓜 .mem) (𝓡 .run)))
     (tables 𝓤 H 𝓜 𝓡 code.env .C) (tables 𝓤 H 𝓜 𝓡 code.env .Λ) #records·crash-if code.function (code.unfolded 𝓤 H 𝓜 𝓡)
     (crash-if-meets 𝓤 H (𝓖 .A) (givenOf 𝓤 H 𝓜 𝓖) (𝓜 .mem) (𝓡 .run) (tablesOf 𝓤 H 𝓜 (tables 𝓤 H 𝓜 𝓡 code.env))
-    (cited 𝓤 H (AllIf 𝓤 H (𝓖 .A) (𝓜 .mem) (𝓡 .run)) 𝓜 𝓡 code.env all-if.name all-if.routine code.calls-records·bounds·all-if
+    (cited 𝓤 H (ByValue AllIf 𝓤 H (𝓖 .A)) 𝓜 𝓡 code.env all-if.name all-if.routine code.calls-records·bounds·all-if
     (all-if-thm.met 𝓤 H 𝓜 𝓖 𝓡))
-    (cited 𝓤 H (CrashTx 𝓤 H (𝓖 .A) (𝓜 .mem) (𝓡 .run)) 𝓜 𝓡 code.env crash-tx.name crash-tx.routine code.calls-system·crash-tx
+    (cited 𝓤 H (ByValue CrashTx 𝓤 H (𝓖 .A)) 𝓜 𝓡 code.env crash-tx.name crash-tx.routine code.calls-system·crash-tx
     (crash-tx-thm.met 𝓤 H 𝓜 𝓖 𝓡)))

@@ -1,8 +1,7 @@
 -- `records::get` meets its contract: a walk of its MIR. Below the row's length the record is copied out of the row, and past it a fresh one is made. The row
 -- is looked into as the function is entered and shut before it returns.
 use mathlib.Core.Path.{_≡_, refl, sym}
-use Prim.Native.Nat.{ℕ, _<_, _*_, _^_}
-use native.Mathlib.Omega.{arith}
+use Prim.Native.Nat.{ℕ, _<_, _^_}
 use mathlib.Core.List.{List, [], _∷_}
 use lib.ListN.{length, List·getD-eq-default}
 use lib.Dec.{lit<, ltb→lt, nltb→le}
@@ -36,8 +35,10 @@ use Rattle.dtml.specs.declared.Tx.{Tx}
 use Rattle.dtml.specs.declared.Phase.the-variants.{Fresh}
 use Rattle.dtml.specs.Store.{tx, recordAt}
 use Rattle.dtml.proofs.Tx as R
-use Rattle.records.proofs.Walk.{bare, has, begins, leaves, sinks, held, sets, skips-to, meets}
-use Rattle.records.proofs.Lent.{val, Fits, fresh-fits, Room, word-ok, slice-ok, records, ref, Shr, typed, fetches, start, count, looks, shuts, owns-word, owns-record}
+use Rattle.walks.proofs.Walk.{bare, has, begins, leaves, sinks, held, sets, skips-to, meets}
+use Rattle.walks.proofs.Plain.{word-ok, owns-word}
+use Rattle.walks.proofs.Calling.{start, count}
+use Rattle.walks.proofs.Lent.{val, Fits, fresh-fits, Room, slice-ok, within-room, ref, Shr, typed, fetches, looks, shuts, owns-record}
 use Rattle.records.proofs.get.Key.{name as #records·get}
 use Rattle.records.proofs.get as f
 use Rattle.records.proofs.get.Statement as stated
@@ -79,7 +80,7 @@ module _ {M : Type 1} (𝓤 : URA M) (H : Heap 𝓤) (A : Atoms 𝓤) (W : Given
       sets ! (of-opd ! (count ! 1 refl refl)) 3 refl (word-ok (room .0)) $
       sets ! (bin ! (held ! 2 refl) (held ! 3 refl) tt) 4 refl (tt, tt) $
       first ! $ branches ! (held ! 4 refl)
-      (λ below. let l : i < length ys = ltb→lt i (length ys) below in let small : i * 16 < 2 ^ 64 = omega (arith, room .1) in
+      (λ below. let l : i < length ys = ltb→lt i (length ys) below in let small = within-room l room in
       sets ! (bin ! (held ! 2 refl) (lit ! tt) (record { fits = small })) 5 refl (word-ok small) $
       sets ! (bin ! (start ! 1 refl refl) (held ! 5 refl) tt) 6 refl (tt, tt) $
       fetches ! 18 q′ ys i b o refl l 6 refl 7 refl refl (λ g.

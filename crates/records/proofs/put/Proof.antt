@@ -1,8 +1,7 @@
 -- `records::put` meets its contract: a walk of its MIR. Below the row's length the record is stored into the opened row, past it nothing is done, and `set`
 -- past the end is the row itself. The row is closed at what it then is.
 use mathlib.Core.Path.{_≡_, refl, sym}
-use Prim.Native.Nat.{ℕ, _<_, _*_, _^_}
-use native.Mathlib.Omega.{arith}
+use Prim.Native.Nat.{ℕ, _<_, _^_}
 use mathlib.Core.List.{List, [], _∷_}
 use lib.ListN.{length, set, length-set}
 use lib.Seq.{set-out}
@@ -36,8 +35,10 @@ use denote.Exit.{yes}
 use Rattle.dtml.specs.declared.Tx.{Tx}
 use Rattle.dtml.proofs.Tx as R
 use Rattle.dtml.proofs.Tx.Laws as R′
-use Rattle.records.proofs.Walk.{has, begins, leaves, sinks, held, sets, skips-to, goes-on, meets}
-use Rattle.records.proofs.Lent.{val, vals, Fits, Room, word-ok, slice-ok, records, ref, Mut, typed, store-elem, start, count, opens, closes, owns-word, owns-unit, owns-record}
+use Rattle.walks.proofs.Walk.{has, begins, leaves, sinks, held, sets, skips-to, goes-on, meets}
+use Rattle.walks.proofs.Plain.{word-ok, owns-word, owns-unit}
+use Rattle.walks.proofs.Calling.{start, count}
+use Rattle.walks.proofs.Lent.{val, vals, Fits, Room, slice-ok, within-room, ref, Mut, typed, store-elem, opens, closes, owns-record}
 use Rattle.records.proofs.put.Key.{name as #records·put}
 use Rattle.records.proofs.put as f
 use Rattle.records.proofs.put.Statement as stated
@@ -81,7 +82,7 @@ module _ {M : Type 1} (𝓤 : URA M) (H : Heap 𝓤) (A : Atoms 𝓤) (W : Given
       sets ! (of-opd ! (count ! 1 refl refl)) 4 refl (word-ok (room .0)) $
       sets ! (bin ! (held ! 2 refl) (held ! 4 refl) tt) 5 refl (tt, tt) $
       first ! $ branches ! (held ! 5 refl)
-      (λ below. let l : i < length ys = ltb→lt i (length ys) below in let small : i * 16 < 2 ^ 64 = omega (arith, room .1) in
+      (λ below. let l : i < length ys = ltb→lt i (length ys) below in let small = within-room l room in
       sets ! (bin ! (held ! 2 refl) (lit ! tt) (record { fits = small })) 6 refl (word-ok small) $
       sets ! (bin ! (start ! 1 refl refl) (held ! 6 refl) tt) 7 refl (tt, tt) $
       goes-on ! Mir.t-4 Post refl $

@@ -1,7 +1,7 @@
 -- `records::store_if` meets its contract: a walk of its MIR. After i turns the first i records of the array stand over those of the opened row; with no turn,
 -- or with all 64 over a row of 64, that is what the contract says.
 use mathlib.Core.Path.{_≡_, refl, sym, _∙_, ap, subst}
-use Prim.Native.Nat.{ℕ, _+_, _≤_, _<_, _*_, _^_}
+use Prim.Native.Nat.{ℕ, _+_, _≤_, _<_, _^_}
 use native.Mathlib.Numerals.{add-one}
 use native.Mathlib.Omega.{arith}
 use mathlib.Core.Bool.{Bool}
@@ -50,9 +50,11 @@ use Rattle.records.proofs.bounds.if_64.Met as if-64-thm
 use Rattle.records.proofs.bounds.all_if.Symbol as all-if
 use Rattle.records.proofs.bounds.all_if.Met as all-if-thm
 use Rattle.records.proofs.Over.{over, over-length, over-next, store-within, stored}
-use Rattle.records.proofs.Walk.{bare, has, lies, begins, leaves, sinks, becomes, held, sets, gets, counts, meets}
-use Rattle.records.proofs.Lent.{vals, Row, Room, word, array, word-ok, slice-ok, records, ref, Mut, Closes, typed-array, array-records, records-room, store-elem, fetches, start, count, opens, closes, owns-flag, owns-unit, owns-array}
-use Rattle.records.proofs.Calls.{If64, AllIf, asks-if-64, asks-all-if}
+use Rattle.walks.proofs.Walk.{bare, has, lies, begins, leaves, sinks, becomes, held, sets, gets, counts, meets}
+use Rattle.walks.proofs.Plain.{word, word-ok, owns-flag, owns-unit}
+use Rattle.walks.proofs.Calling.{start, count, word as a-word, flag, ByValue, by-value, comes}
+use Rattle.walks.proofs.Lent.{vals, Row, Room, array, slice-ok, within-room, records, ref, Mut, Closes, typed-array, array-records, records-room, store-elem, fetches, opens, closes, owns-array}
+use Rattle.records.proofs.Calls.{If64, AllIf}
 use Rattle.records.proofs.store_if.Key.{name as #records·store-if}
 use Rattle.records.proofs.store_if as f
 use Rattle.records.proofs.store_if.Statement as stated
@@ -100,8 +102,8 @@ module _ {M : Type 1} (𝓤 : URA M) (H : Heap 𝓤) (A : Atoms 𝓤) (W : Given
     ends-long : length (over m xs ys) ≡ length ys
     ends-long = over-length xs ys m (omega (arith, within .1, long)) (within .0)
 
-  walk : (𝓣 : Tables 𝓤 H) → FmC 𝓤 H (W .laws) (𝓣 .C) → Triple 𝓤 (𝓣 .C if-64.name) (If64 𝓤 H A mem run)
-      → Triple 𝓤 (𝓣 .C all-if.name) (AllIf 𝓤 H A mem run)
+  walk : (𝓣 : Tables 𝓤 H) → FmC 𝓤 H (W .laws) (𝓣 .C) → Triple 𝓤 (𝓣 .C if-64.name) (ByValue If64 𝓤 H A)
+      → Triple 𝓤 (𝓣 .C all-if.name) (ByValue AllIf 𝓤 H A)
       → ent 𝓤 (onEntry 𝓤 H A f.signature (κ, tt) (q, tt) x at) (WpFn 𝓤 H (𝓣 .C) (𝓣 .Λ) code.function (s ∷ vbool changed ∷ v ∷ []) Post)
   unfolding afterTurn
   walk 𝓣 fm known-if-64 known-all-if =
@@ -114,10 +116,10 @@ module _ {M : Type 1} (𝓤 : URA M) (H : Heap 𝓤) (A : Atoms 𝓤) (W : Given
       sets ! (of-opd ! (held ! 3 refl)) 4 refl (typed-array 𝓤 H A W xs v ix) $
       becomes ! 4 (‵ (records fullShare xs l₄ 0)) refl (array-records 𝓤 H A W xs v ix l₄) $
       sets ! (of-opd ! (count ! 1 refl refl)) 8 refl (word-ok (room .0)) $
-      asks-if-64 ! fm mem run known-if-64 (length ys) (room .0) (and-then ! (held ! 8 refl) (no-more !))
-      (λ n n-is n-fits. gets ! 7 refl (word-ok n-fits) $
-      asks-all-if ! fm mem run known-all-if changed n n-fits (and-then ! (held ! 2 refl) (and-then ! (held ! 7 refl) (no-more !)))
-      (λ m m-is m-fits. gets ! 5 refl (word-ok m-fits) $
+      comes ! fm (by-value If64 𝓤 H A W (𝓣 .C if-64.name) (fm if-64.name) known-if-64 _ (a-word 𝓤 H A W (length ys) (room .0), tt))
+      (λ _. and-then ! (held ! 8 refl) (no-more !)) (λ n e. let n-is = e .1 in gets ! 7 refl (word-ok (e .0 .1)) $
+      comes ! fm (by-value AllIf 𝓤 H A W (𝓣 .C all-if.name) (fm all-if.name) known-all-if _ (flag 𝓤 H A W changed, (a-word 𝓤 H A W n (e .0 .1), tt)))
+      (λ _. and-then ! (held ! 2 refl) (and-then ! (held ! 7 refl) (no-more !))) (λ m e₁. let m-is = e₁ .1 in gets ! 5 refl (word-ok (e₁ .0 .1)) $
       sets ! (of-opd ! (lit ! tt)) 6 refl (word-ok (lit< tt)) $
       counts ! 𝓣 m
       (λ i. bare ∷ has s ∷ has (vbool changed) ∷ has v ∷ lies (λ l. records fullShare xs l 0)
@@ -127,7 +129,7 @@ module _ {M : Type 1} (𝓤 : URA M) (H : Heap 𝓤) (A : Atoms 𝓤) (W : Given
       (λ i l.
       let in-ys : i < length ys = omega (arith, within n m n-is m-is .0) in
       let in-xs : i < length xs = omega (arith, within n m n-is m-is .1, long) in
-      let small : i * 16 < 2 ^ 64 = omega (arith, within n m n-is m-is .1) in
+      let small = within-room in-ys room in
       let next : i + 1 < 2 ^ 64 = omega (arith, within n m n-is m-is .1) in
       let here : i < length (over i xs ys) = omega (arith, over-length xs ys i (omega arith) (omega arith)) in
       sets ! (bin ! (held ! 6 refl) (lit ! tt) (record { fits = small })) 10 refl (word-ok small) $
@@ -147,7 +149,7 @@ module _ {M : Type 1} (𝓤 : URA M) (H : Heap 𝓤) (A : Atoms 𝓤) (W : Given
       by ! (exits (over m xs ys) (ends-as n m n-is m-is) (ends-long n m n-is m-is))))))
 
 store-if-meets : {M : Type 1} (𝓤 : URA M) (H : Heap 𝓤) (A : Atoms 𝓤) (W : Given 𝓤 H A) (mem : Memory → SProp 𝓤) (run : Routine → Fun 𝓤)
-    (𝓣 : Tables 𝓤 H) → Triple 𝓤 (𝓣 .C if-64.name) (If64 𝓤 H A mem run) → Triple 𝓤 (𝓣 .C all-if.name) (AllIf 𝓤 H A mem run)
+    (𝓣 : Tables 𝓤 H) → Triple 𝓤 (𝓣 .C if-64.name) (ByValue If64 𝓤 H A) → Triple 𝓤 (𝓣 .C all-if.name) (ByValue AllIf 𝓤 H A)
     → Meets 𝓤 H A f.signature (WpFn 𝓤 H (𝓣 .C) (𝓣 .Λ) code.function) (f.spec 𝓤 H A mem run)
 store-if-meets 𝓤 H A W mem run 𝓣 known-if-64 known-all-if =
     meets 𝓤 H A W f.ended stayed (f.clauses 𝓤 H A mem run) 𝓣 code.function (
@@ -168,6 +170,6 @@ store-if-spec 𝓤 H 𝓜 𝓖 𝓡 =
     entered 𝓤 H (tripleOf 𝓤 H (𝓖 .A) f.signature (f.spec 𝓤 H (𝓖 .A) (𝓜 .mem) (𝓡 .run)))
     (tables 𝓤 H 𝓜 𝓡 code.env .C) (tables 𝓤 H 𝓜 𝓡 code.env .Λ) #records·store-if code.function (code.unfolded 𝓤 H 𝓜 𝓡)
     (store-if-meets 𝓤 H (𝓖 .A) (givenOf 𝓤 H 𝓜 𝓖) (𝓜 .mem) (𝓡 .run) (tablesOf 𝓤 H 𝓜 (tables 𝓤 H 𝓜 𝓡 code.env))
-    (cited 𝓤 H (If64 𝓤 H (𝓖 .A) (𝓜 .mem) (𝓡 .run)) 𝓜 𝓡 code.env if-64.name if-64.routine code.calls-records·bounds·if-64 (if-64-thm.met 𝓤 H 𝓜 𝓖 𝓡))
-    (cited 𝓤 H (AllIf 𝓤 H (𝓖 .A) (𝓜 .mem) (𝓡 .run)) 𝓜 𝓡 code.env all-if.name all-if.routine code.calls-records·bounds·all-if
+    (cited 𝓤 H (ByValue If64 𝓤 H (𝓖 .A)) 𝓜 𝓡 code.env if-64.name if-64.routine code.calls-records·bounds·if-64 (if-64-thm.met 𝓤 H 𝓜 𝓖 𝓡))
+    (cited 𝓤 H (ByValue AllIf 𝓤 H (𝓖 .A)) 𝓜 𝓡 code.env all-if.name all-if.routine code.calls-records·bounds·all-if
     (all-if-thm.met 𝓤 H 𝓜 𝓖 𝓡)))

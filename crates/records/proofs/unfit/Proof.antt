@@ -1,7 +1,7 @@
 -- `records::unfit` meets its contract: a walk of its MIR. After i turns the flag tells of the first i records; a row of 64 is looked at whole, and of another
 -- row its length alone decides. The row is looked into as the function is entered and shut before it returns.
 use mathlib.Core.Path.{_≡_, refl, sym, _∙_, ap, subst}
-use Prim.Native.Nat.{ℕ, _+_, _≤_, _<_, _*_, _^_}
+use Prim.Native.Nat.{ℕ, _+_, _≤_, _<_, _^_}
 use native.Mathlib.Numerals.{add-one}
 use native.Mathlib.Omega.{arith}
 use mathlib.Core.Bool.{Bool, not}
@@ -49,9 +49,11 @@ use Rattle.records.proofs.bounds.worse.Met as worse-thm
 use Rattle.records.proofs.bounds.either.Symbol as either
 use Rattle.records.proofs.bounds.either.Met as either-thm
 use Rattle.records.proofs.Over.{if-64-within, looked-next, looked}
-use Rattle.records.proofs.Walk.{bare, has, begins, leaves, sinks, held, sets, gets, counts, meets}
-use Rattle.records.proofs.Lent.{Room, word, word-ok, slice-ok, records, ref, Shr, Shuts, fetches, start, count, looks, shuts, owns-word, owns-flag}
-use Rattle.records.proofs.Calls.{If64, Worse, Either, asks-if-64, asks-worse, asks-either}
+use Rattle.walks.proofs.Walk.{bare, has, begins, leaves, sinks, held, sets, gets, counts, meets}
+use Rattle.walks.proofs.Plain.{word, word-ok, owns-word, owns-flag}
+use Rattle.walks.proofs.Calling.{start, count, word as a-word, flag, ByValue, by-value, comes}
+use Rattle.walks.proofs.Lent.{Room, slice-ok, within-room, records, ref, Shr, Shuts, fetches, looks, shuts, a-record}
+use Rattle.records.proofs.Calls.{If64, Worse, Either}
 use Rattle.records.proofs.unfit.Key.{name as #records·unfit}
 use Rattle.records.proofs.unfit as f
 use Rattle.records.proofs.unfit.Statement as stated
@@ -90,8 +92,8 @@ module _ {M : Type 1} (𝓤 : URA M) (H : Heap 𝓤) (A : Atoms 𝓤) (W : Given
         → r ≡ anyOf (not (eqb (length ys) 64) ∷ unfitTxs n ys ∷ [])
     ends-as r e = e ∙ ap (λ (j : ℕ). anyOf (not (eqb (length ys) 64) ∷ unfitTxs n (take j ys) ∷ [])) m-is ∙ looked n ys
 
-  walk : (𝓣 : Tables 𝓤 H) → FmC 𝓤 H (W .laws) (𝓣 .C) → Triple 𝓤 (𝓣 .C if-64.name) (If64 𝓤 H A mem run)
-      → Triple 𝓤 (𝓣 .C worse.name) (Worse 𝓤 H A mem run) → Triple 𝓤 (𝓣 .C either.name) (Either 𝓤 H A mem run)
+  walk : (𝓣 : Tables 𝓤 H) → FmC 𝓤 H (W .laws) (𝓣 .C) → Triple 𝓤 (𝓣 .C if-64.name) (ByValue If64 𝓤 H A)
+      → Triple 𝓤 (𝓣 .C worse.name) (ByValue Worse 𝓤 H A) → Triple 𝓤 (𝓣 .C either.name) (ByValue Either 𝓤 H A)
       → ent 𝓤 (onEntry 𝓤 H A f.signature (κ, tt) (q, tt) x at) (WpFn 𝓤 H (𝓣 .C) (𝓣 .Λ) code.function (s ∷ vint w64 n ∷ []) Post)
   unfolding afterTurn unfitTxs
   walk 𝓣 fm known-if-64 known-worse known-either =
@@ -101,8 +103,8 @@ module _ {M : Type 1} (𝓤 : URA M) (H : Heap 𝓤) (A : Atoms 𝓤) (W : Given
       move ! (22 ∷ 23 ∷ []) $ looks ! tt κ q b o γ ys (λ q′. sinks ! 2 $
       -- [_0 0; …; _10 10; that each dies 11 …; the records 22; what shuts them 23]
       sets ! (of-opd ! (count ! 1 refl refl)) 6 refl (word-ok (room .0)) $
-      asks-if-64 ! fm mem run known-if-64 (length ys) (room .0) (and-then ! (held ! 6 refl) (no-more !))
-      (λ m m-is m-fits. gets ! 3 refl (word-ok m-fits) $
+      comes ! fm (by-value If64 𝓤 H A W (𝓣 .C if-64.name) (fm if-64.name) known-if-64 _ (a-word 𝓤 H A W (length ys) (room .0), tt))
+      (λ _. and-then ! (held ! 6 refl) (no-more !)) (λ m e. let m-is = e .1 in gets ! 3 refl (word-ok (e .0 .1)) $
       sets ! (of-opd ! (false-lit !)) 4 refl (tt, tt) $
       sets ! (of-opd ! (lit ! tt)) 5 refl (word-ok (lit< tt)) $
       counts ! 𝓣 m
@@ -111,29 +113,29 @@ module _ {M : Type 1} (𝓤 : URA M) (H : Heap 𝓤) (A : Atoms 𝓤) (W : Given
       (λ i. bin ! (held ! 5 refl) (held ! 3 refl) tt) 7 (λ i. refl) (λ z. tt)
       (λ i l.
       let in-ys : i < length ys = omega (arith, within m m-is .0) in
-      let small : i * 16 < 2 ^ 64 = omega (arith, within m m-is .1) in
+      let small = within-room in-ys room in
       let next : i + 1 < 2 ^ 64 = omega (arith, within m m-is .1) in
       sets ! (bin ! (held ! 5 refl) (lit ! tt) (record { fits = small })) 8 refl (word-ok small) $
       sets ! (bin ! (start ! 1 refl refl) (held ! 8 refl) tt) 9 refl (tt, tt) $
       fetches ! 22 q′ ys i b o refl in-ys 9 refl 10 refl refl (λ g.
-      asks-worse ! fm mem run known-worse (unfitTxs n (take i ys)) n (recordAt ys i) n-fits g
-      (and-then ! (held ! 4 refl) (and-then ! (held ! 2 refl) (and-then ! (held ! 10 refl) (no-more !))))
-      (λ r r-is. land ! (from ! (stop !)) (store ! 4 refl (tt, tt)) $
+      comes ! fm (by-value Worse 𝓤 H A W (𝓣 .C worse.name) (fm worse.name) known-worse _ (flag 𝓤 H A W (unfitTxs n (take i ys)), (a-word 𝓤 H A W n n-fits, (a-record 𝓤 H A (recordAt ys i) g, tt))))
+      (λ _. and-then ! (held ! 4 refl) (and-then ! (held ! 2 refl) (and-then ! (held ! 10 refl) (no-more !))))
+      (λ r e₁. land ! (from ! (stop !)) (store ! 4 refl (tt, tt)) $
       assigns-last ! (bin ! (held ! 5 refl) (lit ! tt) (record { fits = next })) (from ! (stop !)) (store ! 5 refl (word-ok next)) $
       rewrite ! 5 (λ (j : ℕ). ‵ (fat fullShare word l₅ 0 (vint w64 j))) (add-one i) refl $
-      rewrite ! 4 (λ (z : Bool). ‵ (fat fullShare tyBool l₄ 0 (vbool z))) (r-is ∙ looked-next n ys i in-ys) refl $
+      rewrite ! 4 (λ (z : Bool). ‵ (fat fullShare tyBool l₄ 0 (vbool z))) (e₁ .1 ∙ looked-next n ys i in-ys) refl $
       forget ! 7 refl $ forget ! 8 refl $ forget ! 9 refl $ forget ! 10 refl $ done !)))
       (assigns ! (of-opd ! (count ! 1 refl refl)) (from ! (stop !)) (store ! 6 refl (word-ok (room .0))) $
-      asks-either ! fm mem run known-either (length ys) (unfitTxs n (take m ys)) (room .0)
-      (and-then ! (held ! 6 refl) (and-then ! (held ! 4 refl) (no-more !)))
-      (λ r r-is. gets ! 0 refl (tt, tt) $
+      comes ! fm (by-value Either 𝓤 H A W (𝓣 .C either.name) (fm either.name) known-either _ (a-word 𝓤 H A W (length ys) (room .0), (flag 𝓤 H A W (unfitTxs n (take m ys)), tt)))
+      (λ _. and-then ! (held ! 6 refl) (and-then ! (held ! 4 refl) (no-more !)))
+      (λ r e₁. gets ! 0 refl (tt, tt) $
       move ! (22 ∷ 23 ∷ []) $ shuts ! tt κ q b o γ ys q′ $ sinks ! 2 $ returns ! (look ! 0 refl) $
       leaves ! (has _ ∷ has _ ∷ has _ ∷ has _ ∷ has _ ∷ has _ ∷ has _ ∷ has _ ∷ []) tt refl $
-      by ! (exits r (ends-as m m-is r r-is)))))))
+      by ! (exits r (ends-as m m-is r (e₁ .1))))))))
 
 unfit-meets : {M : Type 1} (𝓤 : URA M) (H : Heap 𝓤) (A : Atoms 𝓤) (W : Given 𝓤 H A) (mem : Memory → SProp 𝓤) (run : Routine → Fun 𝓤) (𝓣 : Tables 𝓤 H)
-    → Triple 𝓤 (𝓣 .C if-64.name) (If64 𝓤 H A mem run) → Triple 𝓤 (𝓣 .C worse.name) (Worse 𝓤 H A mem run)
-    → Triple 𝓤 (𝓣 .C either.name) (Either 𝓤 H A mem run)
+    → Triple 𝓤 (𝓣 .C if-64.name) (ByValue If64 𝓤 H A) → Triple 𝓤 (𝓣 .C worse.name) (ByValue Worse 𝓤 H A)
+    → Triple 𝓤 (𝓣 .C either.name) (ByValue Either 𝓤 H A)
     → Meets 𝓤 H A f.signature (WpFn 𝓤 H (𝓣 .C) (𝓣 .Λ) code.function) (f.spec 𝓤 H A mem run)
 unfit-meets 𝓤 H A W mem run 𝓣 known-if-64 known-worse known-either =
     meets 𝓤 H A W f.ended stayed (f.clauses 𝓤 H A mem run) 𝓣 code.function
@@ -148,7 +150,7 @@ unfit-spec 𝓤 H 𝓜 𝓖 𝓡 =
     entered 𝓤 H (tripleOf 𝓤 H (𝓖 .A) f.signature (f.spec 𝓤 H (𝓖 .A) (𝓜 .mem) (𝓡 .run)))
     (tables 𝓤 H 𝓜 𝓡 code.env .C) (tables 𝓤 H 𝓜 𝓡 code.env .Λ) #records·unfit code.function (code.unfolded 𝓤 H 𝓜 𝓡)
     (unfit-meets 𝓤 H (𝓖 .A) (givenOf 𝓤 H 𝓜 𝓖) (𝓜 .mem) (𝓡 .run) (tablesOf 𝓤 H 𝓜 (tables 𝓤 H 𝓜 𝓡 code.env))
-    (cited 𝓤 H (If64 𝓤 H (𝓖 .A) (𝓜 .mem) (𝓡 .run)) 𝓜 𝓡 code.env if-64.name if-64.routine code.calls-records·bounds·if-64 (if-64-thm.met 𝓤 H 𝓜 𝓖 𝓡))
-    (cited 𝓤 H (Worse 𝓤 H (𝓖 .A) (𝓜 .mem) (𝓡 .run)) 𝓜 𝓡 code.env worse.name worse.routine code.calls-records·bounds·worse (worse-thm.met 𝓤 H 𝓜 𝓖 𝓡))
-    (cited 𝓤 H (Either 𝓤 H (𝓖 .A) (𝓜 .mem) (𝓡 .run)) 𝓜 𝓡 code.env either.name either.routine code.calls-records·bounds·either
+    (cited 𝓤 H (ByValue If64 𝓤 H (𝓖 .A)) 𝓜 𝓡 code.env if-64.name if-64.routine code.calls-records·bounds·if-64 (if-64-thm.met 𝓤 H 𝓜 𝓖 𝓡))
+    (cited 𝓤 H (ByValue Worse 𝓤 H (𝓖 .A)) 𝓜 𝓡 code.env worse.name worse.routine code.calls-records·bounds·worse (worse-thm.met 𝓤 H 𝓜 𝓖 𝓡))
+    (cited 𝓤 H (ByValue Either 𝓤 H (𝓖 .A)) 𝓜 𝓡 code.env either.name either.routine code.calls-records·bounds·either
     (either-thm.met 𝓤 H 𝓜 𝓖 𝓡)))

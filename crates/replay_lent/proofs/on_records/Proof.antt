@@ -19,12 +19,11 @@ use contract.Monad.{Fun, Fm}
 use contract.Lifetimes.{Lfts}
 use contract.Running.{givenOf, tables, tablesOf}
 use types.Kit.{Given, Item, ‵, raw, _⊛_, some, later, mean, ⋆, _$_, _∵_, !, qed, by, move, keep, drop, use1, use2, use3, split, join, pick, learn, fsplit, fjoin, feqL, suffices, frame, await, updating, now as at-once, check, show, done}
-use types.Part.{whole, sub, look-in, agg}
-use types.Run.{look, init, stop, fld, from, load, lit, addr, of-opd, and-then, no-more, land, returns, enter, params1, pass1, pass0}
+use types.Part.{agg}
+use types.Run.{look, init, stop, from, lit, addr, of-opd, and-then, no-more, land, returns, enter, params1, pass1, pass0}
 use sound.WpLaws.{FmC, fmOf}
 use denote.RattleType.{owns}
 use denote.Laws.{Is}
-use denote.Array.{array-vals, array-tells}
 use denote.Builtin.{u8, u32}
 use denote.Ref.{RefT, now, name}
 use denote.Slice.{ShrSlice, Room, sliceVal, slice-vals, finally, mut-slice-tells as tells, shr-slice-tells, shr-slice-lawful}
@@ -43,13 +42,14 @@ use Rattle.dtml.specs.declared.Tx.{Tx}
 use Rattle.dtml.specs.declared.Phase.the-variants.{Fresh}
 use Rattle.dtml.specs.Store.{tx}
 use Rattle.dtml.proofs.Tx as T
-use Rattle.dtml.proofs.Tx.Laws as T′
-use Rattle.records.proofs.Walk.{has, bare, begins, leaves, sinks, becomes, held, sets, meets}
-use Rattle.records.proofs.Lent.{vals, Row, array, typed-array, array-records, records-room, owns-word}
-use Rattle.records.proofs.Own.{Loan, lent-as, Lender, Lent, lends-own, takes-back}
-use Rattle.records.proofs.Calling.{Comes, comes, relends, promised, Heard, hears, Callee, ByValue, by-value}
+use Rattle.walks.proofs.Walk.{has, bare, begins, leaves, sinks, becomes, held, sets, meets}
+use Rattle.walks.proofs.Plain.{owns-word}
+use Rattle.walks.proofs.Calling.{Comes, comes, relends, promised, Heard, hears, ByValue, by-value, field-of}
+use Rattle.walks.proofs.Own.{Loan, lent-as, Lender, Lent, lends-own, takes-back}
+use Rattle.walks.proofs.Lent.{array, typed-array, array-records, records-room}
 use Rattle.machine.specs.declared.Held.{Held}
 use Rattle.machine.specs.Given.{storeOf}
+use Rattle.machine.proofs.Caller.{Blank}
 use Rattle.machine.proofs.Held as H′
 use Rattle.machine.proofs.Held.Laws as HL
 use Rattle.machine.proofs.work.blank.Symbol as blank-def
@@ -83,16 +83,7 @@ Kept = plain (λ _. H′.the-row)
 abbrev stayed : Stays (f.ended .signature .params) (f.ended .kept)
 stayed = (stay-dropped (shrSliceOf (0 ∷ []) tt Byte) yes, (gave-slice (1 ∷ []) tt Word, (gave-slice (2 ∷ []) tt Word, (gave-slice (3 ∷ []) tt Word, (stay-dropped Kept yes, (gave-slice (4 ∷ []) tt Byte, tt))))))
 
--- what the two callees promise
-abbrev Blank : Callee (Unit {0}) (Unit {0})
-Blank = record {
-  Rs = [];
-  Q = Row;
-  vals = array-vals vals;
-  tells = array-tells T.the-row vals (LL.tells T.the-type T′.the-laws) 64;
-  says = λ _ _ r _. r ≡ replicate 64 (tx 0 Fresh);
-}
-
+-- what `replay` promises
 abbrev Replays : (κs : Lfts 6) (a : Args rp.signature κs) → Ended → AtExit rp.ended κs → Type 0
 Replays κs a r e = Ends (replayed (now (a .0)) (storeOf (now (a .1 .0)) (now (a .1 .1 .0)) (now (a .1 .1 .1 .0)) (a .1 .1 .1 .1 .1 .0) (now (a .1 .1 .1 .1 .0)))) r
     (now (e .1 .0)) (now (e .1 .1 .0)) (now (e .1 .1 .1 .0)) (now (e .1 .1 .1 .1 .0)) (now (a .1 .1 .1 .1 .1 .1 .0)) (now (e .1 .1 .1 .1 .1 .1 .0))
@@ -241,7 +232,7 @@ module _ {M : Type 1} (𝓤 : URA M) (H : Heap 𝓤) (A : Atoms 𝓤) (W : Given
         (λ _. and-then ! (held ! 2 refl) (and-then ! (held ! 11 refl) (and-then ! (held ! 13 refl) (and-then ! (held ! 15 refl) (and-then ! (held ! 17 refl) (and-then ! (held ! 6 refl)
         (and-then ! (held ! 19 refl) (no-more !)))))))) (λ z e₁.
         land ! (from ! (stop !)) (init ! 8 refl (LL.lawful E′.the-type EL.the-laws 𝓤 H A W .typed (z .ended) _ (e₁ .0) .0)) $
-        sets ! (of-opd ! (load ! (from ! (fld ! refl (stop !))) (look-in ! 8 (sub ! 3 refl (whole !))))) 1 refl (tt, record { fits = LL.owed E′.the-type EL.the-laws (z .ended) _ (e₁ .0) .1 .1 .1 .0 .1 }) $
+        sets ! (of-opd ! (field-of ! 8 3 refl refl tt)) 1 refl (tt, record { fits = LL.owed E′.the-type EL.the-laws (z .ended) _ (e₁ .0) .1 .1 .1 .0 .1 }) $
         returns ! (look ! 1 refl) $ split ! $ use1 W (‵ (froom array l₇ 0)) (records-room 𝓤 H A W (z .txs) (e₁ .1 .3 ∙ e .0 .1 .0 .1) l₇) $ move ! (1 ∷ []) $ sinks ! 1 $
         move ! (1 ∷ 2 ∷ 3 ∷ 4 ∷ 5 ∷ 6 ∷ 7 ∷ 0 ∷ []) $
         leaves ! (has _ ∷ has _ ∷ has _ ∷ has _ ∷ has _ ∷ has _ ∷ has _ ∷ bare ∷ has _ ∷ has _ ∷ has _ ∷ has _ ∷ has _ ∷ has _ ∷ has _ ∷ has _ ∷ has _ ∷ has _ ∷ has _ ∷ has _ ∷ []) tt refl $

@@ -1,21 +1,37 @@
--- `system::recover` meets its contract: where recovery is idle the check applies, else what is left is what the recovery line leaves.
-use mathlib.Core.Path.{ap}
+-- `system::recover` meets its contract: each return is the case of the tests that it is under; what is left after both is what the recovery line leaves.
+use mathlib.Core.Path.{sym, ap, _∙_}
 use borrow.Author.Needs.{needs}
-use Rattle.dtml.specs.Handed.{some-lines}
+use Rattle.dtml.specs.Handed.{callSystem, some-lines}
 use Rattle.system.proofs.recover.Statement.{statement}
 use Rattle.system.proofs.recover.Tie as tie
 
-not-idle-requires : tie.Need-not-idle-requires
-not-idle-requires c κs = search needs
+unfit-beside-requires : tie.Need-unfit-beside-requires
+unfit-beside-requires c κs = search needs
 
 refused-requires : tie.Need-refused-requires
 refused-requires c κs = search needs
 
 returns : tie.Need-returns
-returns c = rw (c .refused .ensures, ← (c .before .before .not-idle .ensures), c .before .if1 .taken)
+unfolding callSystem
+returns c = rw (c .refused .ensures, ← (c .before .before .unfit-beside .ensures), c .before .if1 .taken)
+
+not-idle-requires : tie.Need-not-idle-requires
+not-idle-requires c κs = search needs
+
+refused-requires-2 : tie.Need-refused-requires-2
+refused-requires-2 c κs = search needs
+
+returns-2 : tie.Need-returns-2
+unfolding callSystem
+returns-2 c =
+    let idle = c .before in
+    let fit = idle .before .before in
+    rw (c .refused2 .ensures, ← (fit .before .unfit-beside .ensures), fit .if1 .left, ← (idle .before .not-idle .ensures), idle .if2 .taken)
 
 recovery-line-requires : tie.Need-recovery-line-requires
-recovery-line-requires c κs = search needs
+recovery-line-requires c κs =
+    let fit = c .before .before .before .before .before .before in
+    sym (fit .before .unfit-beside .ensures) ∙ fit .if1 .left
 
 healed-requires : tie.Need-healed-requires
 healed-requires c κs = search needs
@@ -26,22 +42,27 @@ same-length c = search needs
 same-length-2 : tie.Need-same-length-2
 same-length-2 c = search needs
 
-returns-2 : tie.Need-returns-2
-returns-2 c =
+returns-3 : tie.Need-returns-3
+unfolding callSystem
+returns-3 c =
     let line = c .before .before .before .before .before in
     let healing = line .before .before .before .before .before in
-    rw (c .healed .ensures, ← (healing .before .not-idle .ensures), healing .if1 .left)
+    let fit = healing .before .before in
+    rw (c .healed .ensures, ← (fit .before .unfit-beside .ensures), fit .if1 .left, ← (healing .before .not-idle .ensures), healing .if2 .left)
     (ap (some-lines 1) (line .recovery-line .ensures))
 
 pub recover-spec : {M : Type 1} → statement M
 recover-spec =
     tie.close
     (tie.spec
-    not-idle-requires
+    unfit-beside-requires
     refused-requires
     returns
+    not-idle-requires
+    refused-requires-2
+    returns-2
     recovery-line-requires
     healed-requires
     same-length
     same-length-2
-    returns-2)
+    returns-3)

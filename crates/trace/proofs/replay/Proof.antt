@@ -17,8 +17,7 @@ use contract.Monad.{Fun}
 use contract.Lifetimes.{Lfts}
 use contract.Running.{givenOf, tables, tablesOf}
 use types.Kit.{Given, Item, ‵, raw, _⊛_, ⋆, _$_, _∵_, !, qed, by, move, keep, drop, use1, use2, split, join, fsplit, fjoin, feqL, suffices, frame, done}
-use types.Part.{whole, sub, look-in}
-use types.Run.{look, init, stop, fld, from, load, of-opd, and-then, no-more, land, returns, enter, params1, pass1, pass0}
+use types.Run.{look, init, stop, from, of-opd, and-then, no-more, land, returns, enter, params1, pass1, pass0}
 use sound.WpLaws.{FmC, fmOf}
 use denote.RattleType.{owns}
 use denote.Shadow.{shadow}
@@ -42,9 +41,10 @@ use denote.Exit.{yes}
 use Rattle.dtml.specs.declared.Tx.{Tx}
 use Rattle.dtml.proofs.Tx as T
 use Rattle.records.specs.Row.{storedIf}
-use Rattle.records.proofs.Walk.{has, begins, leaves, sinks, held, sets, meets}
-use Rattle.records.proofs.Lent.{Row, owns-word, owns-flag, owns-array}
-use Rattle.records.proofs.Calling.{comes, relends, count, promised, told}
+use Rattle.walks.proofs.Walk.{has, begins, leaves, sinks, held, sets, meets}
+use Rattle.walks.proofs.Plain.{owns-word, owns-flag}
+use Rattle.walks.proofs.Calling.{comes, relends, count, promised, told, field-of}
+use Rattle.walks.proofs.Lent.{Row, owns-array}
 use Rattle.records.proofs.store_if as si
 use Rattle.records.proofs.store_if.Symbol as si-def
 use Rattle.records.proofs.store_if.Symbol.{name as #store-if}
@@ -212,10 +212,10 @@ module _ {M : Type 1} (𝓤 : URA M) (H : Heap 𝓤) (A : Atoms 𝓤) (W : Given
         relends ! 7 21 22 refl refl tt tt (r₄ .0) $ move ! (1 ∷ 0 ∷ []) $
         use1 W (raw (promised 𝓤 H A si.ended Stores .pre (y₂ (z .0)))) (goes-store (z .0) (as-row (z .0 .txs) _ (LL.owed R′.the-type RL.the-laws (z .0) _ (e .0) .1 .1 .0))) $
         comes ! fm (told 𝓤 H A si.ended Stores W (C #store-if) (fm #store-if) known-store (y₂ (z .0)) nothing-vals nothing-tells)
-        (λ i. and-then ! (held ! 22 refl) (and-then ! (load ! (from ! (fld ! refl (stop !))) (look-in ! 10 (sub ! 1 refl (whole !))))
-        (and-then ! (load ! (from ! (fld ! refl (stop !))) (look-in ! 10 (sub ! 2 refl (whole !)))) (no-more !)))) (λ z₂ e₂.
+        (λ i. and-then ! (held ! 22 refl) (and-then ! (field-of ! 10 1 refl refl tt)
+        (and-then ! (field-of ! 10 2 refl refl tt) (no-more !)))) (λ z₂ e₂.
         land ! (from ! (stop !)) (init ! 20 refl (tt, tt)) $
-        sets ! (of-opd ! (load ! (from ! (fld ! refl (stop !))) (look-in ! 10 (sub ! 0 refl (whole !))))) 2 refl
+        sets ! (of-opd ! (field-of ! 10 0 refl refl tt)) 2 refl
         (LL.lawful E′.the-type EL.the-laws 𝓤 H A W .typed (z .0 .ended) _ (LL.owed R′.the-type RL.the-laws (z .0) _ (e .0) .0) .0) $
         returns ! (look ! 2 refl) $ sinks ! 2 $
         leaves ! (has _ ∷ has _ ∷ has _ ∷ has _ ∷ has _ ∷ has _ ∷ has _ ∷ has _ ∷ has _ ∷ has _ ∷ has _ ∷ has _ ∷ has _ ∷ has _ ∷ has _ ∷ has _ ∷ has _ ∷ has _ ∷ has _ ∷ has _ ∷ has _ ∷ []) tt refl $

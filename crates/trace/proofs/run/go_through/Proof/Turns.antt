@@ -36,7 +36,9 @@ use Rattle.dtml.proofs.Tx.Laws as X′
 use Rattle.reader.specs.declared.Item.{Item as An-item}
 use Rattle.reader.proofs.Item as I
 use Rattle.reader.proofs.Item.Laws as I′
-use Rattle.records.proofs.Calling.{Comes}
+use Rattle.walks.proofs.Calling.{Comes}
+use Rattle.walks.proofs.Asking.{asked, asks-so, Heard, hears}
+use Rattle.walks.proofs.Rows.{Row, Has, again, Lender, goes-out, comes-in, Lone, HasOne, one-again, OneLender, one-goes-out, one-comes-in}
 use Rattle.day.specs.Counted.{Few}
 use Rattle.trace.specs.declared.run.Course.{Course}
 use Rattle.trace.specs.declared.run.Moved.{Moved}
@@ -46,8 +48,6 @@ use Rattle.trace.proofs.run.Course.Laws as CL
 use Rattle.trace.proofs.run.Moved as M′
 use Rattle.trace.proofs.run.Moved.Laws as ML
 use Rattle.trace.proofs.run.turn as turn
-use Rattle.trace.proofs.Asking.{asked, asks-so, Heard, hears}
-use Rattle.trace.proofs.Rows.{Row, Has, again, Lender, goes-out, comes-in, Lone, HasOne, one-again, OneLender, one-goes-out, one-comes-in}
 
 -- what `turn` asks for and promises, of what it is lent and what it is passed: the word rows, the marks and the buffer
 abbrev pub Lists : Type 0
