@@ -1,11 +1,12 @@
 //! How fast the proved code is, beside a replay written in Rust for speed (tests/plain/fast.rs): four full traces of 64 KiB at N = 256 and at N = 255, how the
 //! cost of a record grows with the trace, and a single call on numbers; both sides optimised alike, in one process, turn by turn, the least of many rounds.
-//! Prints nanoseconds of both, and their ratio.
+//! Prints a line for each: a name, how many records, and nanoseconds a record of both, between tabs; tools/speed makes a table of them.
 
 #[path = "../host/exports.rs"]
 mod exports;
 #[path = "../plain/fast.rs"]
 mod fast;
+#[allow(dead_code)] // of the calls one is timed
 #[path = "../host/register.rs"]
 mod register;
 
@@ -19,7 +20,7 @@ extern "C" {
 
 const FULL: usize = 65_536;
 const ROOM: usize = 655_438;
-const ROUNDS: u32 = 400;
+const ROUNDS: u32 = 3_000;
 
 /// A trace that grows record by record, up to so many bytes.
 struct Trace {
@@ -213,15 +214,7 @@ fn measure(name: &str, trace: &[u8]) {
             black_box(fast::replay(black_box(trace), &mut machine, &mut text));
         },
     );
-    println!(
-        "{:18} {:5} bytes, {:5} records: proved {:4.1} ns a record, plain {:4.1} ns, ratio {:.2}",
-        name,
-        trace.len(),
-        records,
-        ours / records,
-        theirs / records,
-        ours / theirs
-    );
+    println!("{name}\t{records}\t{:.3}\t{:.3}", ours / records, theirs / records);
 }
 
 /// A step of a ready record, which answers 15 and changes nothing, through the exports; beside it one record of the plain replay of writers.
@@ -246,8 +239,7 @@ fn one_call() {
             black_box(fast::replay(black_box(&trace), &mut machine, &mut text));
         },
     );
-    let (a, b) = (ours / CALLS as f64, theirs / records);
-    println!("a call on numbers: {:.1} ns, a record of the plain replay {:.1} ns, ratio {:.2}", a, b, a / b);
+    println!("a call on numbers\t{CALLS}\t{:.3}\t{:.3}", ours / CALLS as f64, theirs / records);
 }
 
 fn main() {
