@@ -39,7 +39,7 @@ use Rattle.dtml.proofs.Answer.Laws as AnswerL
 use Rattle.dtml.proofs.Call as Call′
 use Rattle.dtml.proofs.Call.Laws as CallL
 use Rattle.walks.proofs.Plain.{owns-word}
-use Rattle.walks.proofs.Calling.{Comes, promised, Heard, hears}
+use Rattle.walks.proofs.Calling.{Comes, free, promised, Heard, hears}
 use Rattle.walks.proofs.Own.{Loan, lent-as, Lender, Lent, lends-own, takes-back}
 use Rattle.text.specs.Buffer.{buffer, puts}
 use Rattle.join.specs.Join.{told}
@@ -81,7 +81,7 @@ module _ {M : Type 1} (𝓤 : URA M) (H : Heap 𝓤) (A : Atoms 𝓤) (W : Given
     )
 
     abbrev heard : Val → Item 𝓤
-    heard = Heard 𝓤 H A tl.ended Tells W run fm met told-so (uint-vals w64) (uint-tells w64)
+    heard = Heard 𝓤 H A tl.ended (free 𝓤 tl.ended) Tells W run fm met told-so (uint-vals w64) (uint-tells w64)
 
     abbrev Part : Fml
     Part = flent (μ .0 ∷ []) (arr-parts (shares u32) (length pers) .part fullShare pers l 0)
@@ -114,7 +114,7 @@ module _ {M : Type 1} (𝓤 : URA M) (H : Heap 𝓤) (A : Atoms 𝓤) (W : Given
       owned ! Call′.the-row (Is Call′.the-row) (EL.makes Call′.the-type CallL.the-plain 𝓤 H A) asked (av ∷ []) asked-is $ fjoin ! $ owns-word ! at fits $ fjoin ! $ move ! (3 ∷ 0 ∷ []) $ fjoin ! $
       -- [what the callee's parameters own; what is kept of the row; its token; the buffer's token; what is kept of it]
       nothing ! $ move ! (3 ∷ 0 ∷ []) $ join ! $ move ! (3 ∷ 0 ∷ []) $ join ! $ join ! $ nothing ! $ move ! (1 ∷ 0 ∷ []) $
-      use2 W (raw (run (given (length out) (length pers)) (λ v. mean 𝓤 H A (heard ν (μ, δ) v)))) (hears 𝓤 H A tl.ended Tells W run fm met (told-so ν (μ, δ)) (uint-vals w64) (uint-tells w64)) $
+      use2 W (raw (run (given (length out) (length pers)) (λ v. mean 𝓤 H A (heard ν (μ, δ) v)))) (hears 𝓤 H A tl.ended (free 𝓤 tl.ended) Tells W run fm met (told-so ν (μ, δ)) (uint-vals w64) (uint-tells w64)) $
       at-once ! $ by ! (fm (given (length out) (length pers)) _ (λ v. H .⇛ (ex 𝓤 (Out (length out) v))) (⋆ 𝓤 H A (Held ν (μ, δ))) (ends ν (μ, δ))))))
 
   pub telling : (n : ℕ) → length out ≡ n → Room u8 n → Comes W run (Both out) (given n 4) (ℕ × List ℕ) (λ r. vint w64 (r .0)) (Said (length out)) (λ r. Both (r .1))

@@ -41,7 +41,7 @@ use Rattle.dtml.proofs.Call as Call′
 use Rattle.dtml.proofs.Call.Laws as CallL
 use Rattle.dtml.proofs.Tx as T′
 use Rattle.dtml.proofs.Tx.Laws as TL
-use Rattle.walks.proofs.Calling.{Comes, slots, plainly, Passed, Passeds, of, these, values, args, vss, flat-is, these-are, owns-all, Callee, promised, Heard, hears, field-of}
+use Rattle.walks.proofs.Calling.{Comes, slots, plainly, Passed, Passeds, of, these, values, args, vss, flat-is, these-are, owns-all, Callee, free, promised, Heard, hears, field-of}
 use Rattle.walks.proofs.Own.{Loan, lent-as, Lender, Lent, lends-own, takes-back}
 use Rattle.walks.proofs.Lent.{vals, Row}
 use Rattle.machine.specs.declared.Held.{Held}
@@ -192,7 +192,7 @@ module _ {M : Type 1} (𝓤 : URA M) (H : Heap 𝓤) (A : Atoms 𝓤) (W : Given
       )
 
       abbrev after : Val → Item 𝓤
-      after = Heard 𝓤 H A (Four (c .Rs) (c .Q)) (Says c) W run fm met lent-so (c .vals) (c .tells)
+      after = Heard 𝓤 H A (Four (c .Rs) (c .Q)) (free 𝓤 (Four (c .Rs) (c .Q))) (Says c) W run fm met lent-so (c .vals) (c .tells)
 
       abbrev Kept : List (Item 𝓤)
       Kept = ‵ (Keeps T′.the-row s₃ ν₃ (z .txs)) ∷ ‵ (Keeps u32 s₂ ν₂ (z .old)) ∷ ‵ (Keeps u32 s₁ ν₁ (z .pers)) ∷ ‵ (Keeps u32 s₀ ν₀ (z .vol)) ∷ []
@@ -238,7 +238,7 @@ module _ {M : Type 1} (𝓤 : URA M) (H : Heap 𝓤) (A : Atoms 𝓤) (W : Given
         nothing ! $ move ! (2 ∷ 0 ∷ []) $ join ! $ move ! (3 ∷ 0 ∷ []) $ join ! $ move ! (4 ∷ 0 ∷ []) $ join ! $ move ! (5 ∷ 0 ∷ []) $ join ! $ join ! $ nothing ! $ move ! (1 ∷ 0 ∷ []) $
         use2 W (raw (run (passed (length (z .vol)) (length (z .pers)) (length (z .old)) (length (z .txs))) (λ v. mean 𝓤 H A (after ν₀ ν₁ ν₂ ν₃ v))))
         (subst (λ (vs : List Val). ent 𝓤 (Calling 𝓤 H A c .pre (lent-so ν₀ ν₁ ν₂ ν₃)) (run (sliceVal (s₀ .0) (length (z .vol)) ∷ sliceVal (s₁ .0) (length (z .pers)) ∷ sliceVal (s₂ .0) (length (z .old)) ∷ sliceVal (s₃ .0) (length (z .txs)) ∷ vs) (λ v. mean 𝓤 H A (after ν₀ ν₁ ν₂ ν₃ v))))
-        (flat-is 𝓤 H A 4 (κs ν₀ ν₁ ν₂ ν₃) (c .Rs) g) (hears 𝓤 H A (Four (c .Rs) (c .Q)) (Says c) W run fm met (lent-so ν₀ ν₁ ν₂ ν₃) (c .vals) (c .tells))) $
+        (flat-is 𝓤 H A 4 (κs ν₀ ν₁ ν₂ ν₃) (c .Rs) g) (hears 𝓤 H A (Four (c .Rs) (c .Q)) (free 𝓤 (Four (c .Rs) (c .Q))) (Says c) W run fm met (lent-so ν₀ ν₁ ν₂ ν₃) (c .vals) (c .tells))) $
         at-once ! $ by ! (fm (passed (length (z .vol)) (length (z .pers)) (length (z .old)) (length (z .txs))) _ (λ v. H .⇛ (ex 𝓤 (Back v))) (⋆ 𝓤 H A (Kept ν₀ ν₁ ν₂ ν₃)) (back ν₀ ν₁ ν₂ ν₃))))))
 
     pub lent : Room u32 (s₀ .1) → Room u32 (s₁ .1) → Room u32 (s₂ .1) → Room T′.the-row (s₃ .1)

@@ -38,7 +38,7 @@ use denote.Triple.Walked.{says, Stays, AllGo, fitsOf, hasOf, gave-slice, stay-sl
 use Rattle.dtml.specs.declared.Tx.{Tx}
 use Rattle.dtml.proofs.Tx as T
 use Rattle.walks.proofs.Walk.{meets}
-use Rattle.walks.proofs.Calling.{Comes, slots, all-kept, plainly, Passeds, these, values, args, vss, flat-is, these-are, owns-all, Callee, promised, Heard, hears}
+use Rattle.walks.proofs.Calling.{Comes, slots, all-kept, plainly, Passeds, these, values, args, vss, flat-is, these-are, owns-all, Callee, free, promised, Heard, hears}
 use Rattle.walks.proofs.Again.{LentAgain, lends-again, comes-back}
 
 abbrev pub Triple-of : Type 0 → Type 0
@@ -121,7 +121,7 @@ module _ {M : Type 1} (𝓤 : URA M) (H : Heap 𝓤) (A : Atoms 𝓤) (W : Given
     lent-so = (((ν ∷ [], tt), (fullShare, tt), tt, (x, args 𝓤 H A 1 (ν ∷ [], tt) (c .Rs) g), (s ∷ [], vss 𝓤 H A 1 (ν ∷ [], tt) (c .Rs) g)), tt)
 
     abbrev After : Val → Item 𝓤
-    After = Heard 𝓤 H A (On row (c .Rs) (c .Q)) Φ W run fm met lent-so (c .vals) (c .tells)
+    After = Heard 𝓤 H A (On row (c .Rs) (c .Q)) (free 𝓤 (On row (c .Rs) (c .Q))) Φ W run fm met lent-so (c .vals) (c .tells)
 
     runs-on : ent 𝓤 (sep 𝓤 (A .lft (ν ∷ []) fullShare) (sem 𝓤 H A (row .row (ν ∷ [], tt) .own x (s ∷ []))))
         (run (s ∷ values 𝓤 H A (c .Rs) g) (λ v. mean 𝓤 H A (After v)))
@@ -133,7 +133,7 @@ module _ {M : Type 1} (𝓤 : URA M) (H : Heap 𝓤) (A : Atoms 𝓤) (W : Given
         move ! (2 ∷ 0 ∷ []) $ fjoin ! $ move ! (1 ∷ 0 ∷ []) $ join ! $ nothing ! $ move ! (1 ∷ 0 ∷ []) $ done !)
         (subst (λ (vs : List Val). ent 𝓤 (promised 𝓤 H A (On row (c .Rs) (c .Q)) Φ .pre lent-so) (run (s ∷ vs) (λ v. mean 𝓤 H A (After v))))
         (flat-is 𝓤 H A 1 (ν ∷ [], tt) (c .Rs) g)
-        (hears 𝓤 H A (On row (c .Rs) (c .Q)) Φ W run fm met lent-so (c .vals) (c .tells)))
+        (hears 𝓤 H A (On row (c .Rs) (c .Q)) (free 𝓤 (On row (c .Rs) (c .Q))) Φ W run fm met lent-so (c .vals) (c .tells)))
 
   module _ (z : Rows) where
     abbrev x : RefT (List Tx)
@@ -302,12 +302,12 @@ module _ {M : Type 1} (𝓤 : URA M) (H : Heap 𝓤) (A : Atoms 𝓤) (W : Given
         move ! (2 ∷ 0 ∷ []) $ fjoin ! $ move ! (1 ∷ 0 ∷ []) $ fjoin ! $ move ! (1 ∷ 0 ∷ []) $ fjoin ! $
         nothing ! $ move ! (2 ∷ 0 ∷ []) $ join ! $ move ! (2 ∷ 0 ∷ []) $ join ! $ move ! (2 ∷ 0 ∷ []) $ join ! $ join ! $ nothing ! $ move ! (1 ∷ 0 ∷ []) $
         use2 W (raw (run (Handing 𝓤 H A c .args handed-so) (λ v. mean 𝓤 H A (after v))))
-        (hears 𝓤 H A (On-words (c .Rs) (c .Q)) (Says-handed c) W run fm met handed-so (c .vals) (c .tells)) $
+        (hears 𝓤 H A (On-words (c .Rs) (c .Q)) (free 𝓤 (On-words (c .Rs) (c .Q))) (Says-handed c) W run fm met handed-so (c .vals) (c .tells)) $
         at-once ! $ by ! (fm→mono 𝓤 (run (Handing 𝓤 H A c .args handed-so)) (fm (Handing 𝓤 H A c .args handed-so)) _ (λ v. H .⇛ (ex 𝓤 (Gone v))) gone));
   }
     where
       after : Val → Item 𝓤
-      after = Heard 𝓤 H A (On-words (c .Rs) (c .Q)) (Says-handed c) W run fm met handed-so (c .vals) (c .tells)
+      after = Heard 𝓤 H A (On-words (c .Rs) (c .Q)) (free 𝓤 (On-words (c .Rs) (c .Q))) (Says-handed c) W run fm met handed-so (c .vals) (c .tells)
 
       plain-so : (r : c .Q .Denot) (w : Triple-of (List ℕ)) → c .says Before (plainly 3 (c .Rs) κs (args 𝓤 H A 3 κs (c .Rs) g)) r w
           → c .says Before (these 𝓤 H A (c .Rs) g) r w

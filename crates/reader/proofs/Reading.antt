@@ -25,7 +25,7 @@ use denote.Triple.Entry.{Args}
 use denote.Triple.Statement.{Triple}
 use denote.Triple.Clauses.{AtExit}
 use Rattle.walks.proofs.Plain.{owns-word}
-use Rattle.walks.proofs.Calling.{Comes, promised, told-as}
+use Rattle.walks.proofs.Calling.{Comes, free, promised, told-as}
 use Rattle.reader.specs.Trace.{found}
 use Rattle.reader.specs.Said.{placeAfter, movedOn}
 use Rattle.reader.specs.declared.place.Reader.{Reader}
@@ -77,7 +77,7 @@ module _ {M : Type 1} (𝓤 : URA M) (H : Heap 𝓤) (A : Atoms 𝓤) (W : Given
   pub sees : Triple 𝓤 run (promised 𝓤 H A seen.ended Sees) → (n : ℕ) → n < 2 ^ 64
       → Comes W run (‵ (Held κ q s)) (only (slice-vals s) ∷ vint w64 n ∷ []) Seen mach-seen (λ r. Is S.the-row r (mach-seen r ∷ []) × Sees-so n (now s) r) (λ _. ‵ (Held κ q s))
   sees met n fits =
-      told-as 𝓤 H A seen.ended Sees W run fm met (((κ, tt), (q, tt), tt, (s, (n, tt)), (slice-vals s, (vint w64 n ∷ [], tt))), tt) (LL.vals S.the-type S′.the-laws) (LL.tells S.the-type S′.the-laws)
+      told-as 𝓤 H A seen.ended (free 𝓤 seen.ended) Sees W run fm met (((κ, tt), (q, tt), tt, (s, (n, tt)), (slice-vals s, (vint w64 n ∷ [], tt))), tt) (LL.vals S.the-type S′.the-laws) (LL.tells S.the-type S′.the-laws)
       (‵ (Own κ s)) (λ x. x .0) (λ x h. (refl, h))
       (fsplit ! $ move ! (1 ∷ []) $ use1 W (‵ (Own κ s) ⊛ ‵ (Own κ s)) (shr-slice-copy 𝓤 H A W (named 0) κ u8 .twice s (slice-vals s)) $ split ! $
       nothing ! $ owns-word ! n fits $ fjoin ! $ move ! (1 ∷ 0 ∷ []) $ fjoin ! $
@@ -88,7 +88,7 @@ module _ {M : Type 1} (𝓤 : URA M) (H : Heap 𝓤) (A : Atoms 𝓤) (W : Given
   pub nexts : Triple 𝓤 run (promised 𝓤 H A next.ended Nexts) → (d : Reader) → d .trace ≡ s → d .at < 2 ^ 64
       → Comes W run (‵ (Held κ q s)) (mach κ d ∷ []) Read (mach-read κ) (λ r. Is (R.the-row (α κ)) r (mach-read κ r ∷ []) × Says d r) (λ _. ‵ (Held κ q s))
   nexts met d same fits =
-      told-as 𝓤 H A next.ended Nexts W run fm met (((κ, tt), (q, tt), tt, (d, tt), (mach κ d ∷ [], tt)), tt) (LL.vals (R.the-type (α κ)) (R′.the-laws (α κ))) (LL.tells (R.the-type (α κ)) (R′.the-laws (α κ)))
+      told-as 𝓤 H A next.ended (free 𝓤 next.ended) Nexts W run fm met (((κ, tt), (q, tt), tt, (d, tt), (mach κ d ∷ [], tt)), tt) (LL.vals (R.the-type (α κ)) (R′.the-laws (α κ))) (LL.tells (R.the-type (α κ)) (R′.the-laws (α κ)))
       (‵ (Own κ s)) (λ x. x .0) (λ x h. (refl, h))
       (fsplit ! $ move ! (1 ∷ []) $ use1 W (‵ (Own κ s) ⊛ ‵ (Own κ s)) (shr-slice-copy 𝓤 H A W (named 0) κ u8 .twice s (slice-vals s)) $ split ! $
       rewrite ! 0 (λ x. ‵ (Own κ x)) (sym same) refl $ nothing ! $ owns-word ! (d .at) fits $ fjoin ! $ move ! (1 ∷ 0 ∷ []) $ fjoin ! $

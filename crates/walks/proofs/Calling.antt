@@ -35,6 +35,7 @@ use denote.Triple.End.{Kepts}
 use denote.Triple.Spec.{tripleOf}
 use denote.Triple.Statement.{Contract, Triple}
 use denote.Triple.Clauses.{Ended, Lasts, AtExit, atExit, lasts, closing}
+use denote.Triple.Walked.{says}
 
 -- from F a run on the values vs returns: with some x of which φ holds, the value `val x` is returned, and B x is had
 pub record Comes {M : Type 1} {𝓤 : URA M} {H : Heap 𝓤} {A : Atoms 𝓤} (W : Given 𝓤 H A) (run : Fun 𝓤) (F : Item 𝓤) (vs : List Val)
@@ -206,14 +207,14 @@ pub record Callee (In Out : Type 0) : Type 2 where
   pub tells : Tells Q (Is Q) vals
   pub says : In → Denots Rs → Q .Denot → Out → Type 0
 
-module _ {M : Type 1} (𝓤 : URA M) (H : Heap 𝓤) (A : Atoms 𝓤) (T : Ended)
+module _ {M : Type 1} (𝓤 : URA M) (H : Heap 𝓤) (A : Atoms 𝓤) (T : Ended) (Ψ : (κs : Lfts (T .signature .lifetimes)) → Args (T .signature) κs → SProp 𝓤)
     (Φ : (κs : Lfts (T .signature .lifetimes)) (a : Args (T .signature) κs) → Res (T .signature) κs → AtExit T κs → Type 0) where
-  -- a contract that asks nothing and promises a fact
-  abbrev pub promised : Contract 𝓤
-  promised = tripleOf 𝓤 H A (T .signature) (closing 𝓤 H A T
-      (λ κs a. record { ghost = Unit {0}; requires = λ _. emp 𝓤; ensures = λ _ r e. fact 𝓤 (Φ κs a r e) }))
+  -- a contract that asks for Ψ and promises a fact
+  abbrev pub agreed : Contract 𝓤
+  agreed = tripleOf 𝓤 H A (T .signature) (closing 𝓤 H A T
+      (λ κs a. record { ghost = Unit {0}; requires = λ _. Ψ κs a; ensures = λ _ r e. fact 𝓤 (Φ κs a r e) }))
 
-  module _ (W : Given 𝓤 H A) (run : Fun 𝓤) (fm : (vs : List Val) → Fm 𝓤 (run vs)) (met : Triple 𝓤 run promised) (y : promised .Ghost)
+  module _ (W : Given 𝓤 H A) (run : Fun 𝓤) (fm : (vs : List Val) → Fm 𝓤 (run vs)) (met : Triple 𝓤 run agreed) (y : agreed .Ghost)
       (vals : Res (T .signature) (y .0 .0) → List Val)
       (tells : Tells (typeAt (T .signature .result) (y .0 .0)) (Is (typeAt (T .signature .result) (y .0 .0))) vals) where
     abbrev κs : Lfts (T .signature .lifetimes)
@@ -238,8 +239,8 @@ module _ {M : Type 1} (𝓤 : URA M) (H : Heap 𝓤) (A : Atoms 𝓤) (T : Ended
     abbrev pub Heard : Val → Item 𝓤
     Heard v = later (some (λ (x : End). given ((v ≡ only (vals (x .0))) × Holds x) (Left x)))
 
-    pub hears : ent 𝓤 (promised .pre y) (run (promised .args y) (λ v. mean 𝓤 H A (Heard v)))
-    hears = via 𝓤 _ (met y) (fm→mono 𝓤 (run (promised .args y)) (fm (promised .args y)) _ _ (λ v.
+    pub hears : ent 𝓤 (agreed .pre y) (run (agreed .args y) (λ v. mean 𝓤 H A (Heard v)))
+    hears = via 𝓤 _ (met y) (fm→mono 𝓤 (run (agreed .args y)) (fm (agreed .args y)) _ _ (λ v.
         qed W (later (some (λ (r : R .Denot). (raw (alive 𝓤 H A (T .signature) κs (y .0 .1)) ⊛ ‵ (R .own r (v ∷ [])))
         ⊛ some (λ (ws : Lasts T κs a). ‵ (lasts T κs a ws) ⊛ raw (fact 𝓤 (Φ κs a r (atExit T κs a ws)))))) ∷ []) ∵
         updating ! $ await ! tt $ pick ! (λ r. split ! $ split ! $ move ! (1 ∷ []) $ peeks ! R (Is R) (shows 𝓤 H A R) r (v ∷ []) (λ is. drop ! $
@@ -249,24 +250,46 @@ module _ {M : Type 1} (𝓤 : URA M) (H : Heap 𝓤) (A : Atoms 𝓤) (T : Ended
         join ! $ done !))))))
 
     -- as a step: what the callee needs is all that stands at the head
-    pub told : Comes W run (raw (promised .pre y)) (promised .args y) End (λ x. only (vals (x .0))) Holds Left
+    pub told : Comes W run (raw (agreed .pre y)) (agreed .args y) End (λ x. only (vals (x .0))) Holds Left
     told = record { go = via 𝓤 _ hears (W .laws .⇛-intro _) }
 
     -- beside what is kept, with what is of use to the caller
     pub told-as : {X : Type 0} {val : X → Val} {φ : X → Type 0} {F : Item 𝓤} {B : X → Item 𝓤} (kept : Item 𝓤) (to : End → X)
         → ((x : End) → Holds x → (only (vals (x .0)) ≡ val (to x)) × φ (to x))
-        → Seq (Go {0}) W (F ∷ []) (prop (sep 𝓤 (promised .pre y) (mean 𝓤 H A kept))) → ((x : End) → Seq (Go {0}) W (Left x ∷ kept ∷ []) (prop (mean 𝓤 H A (B (to x)))))
-        → Comes W run F (promised .args y) X val φ B
+        → Seq (Go {0}) W (F ∷ []) (prop (sep 𝓤 (agreed .pre y) (mean 𝓤 H A kept))) → ((x : End) → Seq (Go {0}) W (Left x ∷ kept ∷ []) (prop (mean 𝓤 H A (B (to x)))))
+        → Comes W run F (agreed .args y) X val φ B
     told-as {X} {val} {φ} {F} {B} kept to is enter leave = record {
       go =
-          qed W (F ∷ []) ∵ updating ! $ use1 W (raw (promised .pre y) ⊛ kept) (enter .prf) $ split ! $ use1 W (raw (run (promised .args y) (λ v. mean 𝓤 H A (Heard v)))) hears $
-          at-once ! $ by ! (fm (promised .args y) _ (λ v. H .⇛ (ex 𝓤 (After v))) (mean 𝓤 H A kept) (λ v.
+          qed W (F ∷ []) ∵ updating ! $ use1 W (raw (agreed .pre y) ⊛ kept) (enter .prf) $ split ! $ use1 W (raw (run (agreed .args y) (λ v. mean 𝓤 H A (Heard v)))) hears $
+          at-once ! $ by ! (fm (agreed .args y) _ (λ v. H .⇛ (ex 𝓤 (After v))) (mean 𝓤 H A kept) (λ v.
           qed W (Heard v ∷ kept ∷ []) ∵ updating ! $ await ! tt $ pick ! (λ x. learn ! (λ e. at-once ! $ show ! (After v) (to x) $
           check ! (e .0 ∙ is x (e .1) .0, is x (e .1) .1) $ by ! (leave x .prf)))));
     }
       where
         After : Val → X → SProp 𝓤
         After v x = guard 𝓤 ((v ≡ val x) × φ x) (mean 𝓤 H A (B x))
+
+-- it asks for nothing, or for a fact
+module _ {M : Type 1} (𝓤 : URA M) (T : Ended) where
+  abbrev pub free : (κs : Lfts (T .signature .lifetimes)) → Args (T .signature) κs → SProp 𝓤
+  free κs a = emp 𝓤
+
+  abbrev pub owed : ((κs : Lfts (T .signature .lifetimes)) → Args (T .signature) κs → Type 0) → (κs : Lfts (T .signature .lifetimes)) → Args (T .signature) κs → SProp 𝓤
+  owed Ψ κs a = fact 𝓤 (Ψ κs a)
+
+module _ {M : Type 1} (𝓤 : URA M) (H : Heap 𝓤) (A : Atoms 𝓤) (T : Ended) where
+  abbrev pub promised : ((κs : Lfts (T .signature .lifetimes)) (a : Args (T .signature) κs) → Res (T .signature) κs → AtExit T κs → Type 0) → Contract 𝓤
+  promised Φ = agreed 𝓤 H A T (free 𝓤 T) Φ
+
+  module _ (Ψ : (κs : Lfts (T .signature .lifetimes)) → Args (T .signature) κs → Type 0)
+      (Φ : (κs : Lfts (T .signature .lifetimes)) (a : Args (T .signature) κs) → Res (T .signature) κs → AtExit T κs → Type 0) where
+    abbrev pub asked : Contract 𝓤
+    asked = agreed 𝓤 H A T (owed 𝓤 T Ψ) Φ
+
+    -- the fact shown, the rest is what the types own
+    pub asks-so : Given 𝓤 H A → (y : asked .Ghost) → let κs = y .0 .0 in let a = y .0 .3 in Ψ κs a
+        → ent 𝓤 (sep 𝓤 (alive 𝓤 H A (T .signature) κs (y .0 .1)) (sem 𝓤 H A (owns (typesAt (T .signature .params) κs) a (y .0 .4)))) (asked .pre y)
+    asks-so W y φ = qed W (raw (alive 𝓤 H A (T .signature) (y .0 .0) (y .0 .1)) ∷ ‵ (owns (typesAt (T .signature .params) (y .0 .0)) (y .0 .3) (y .0 .4)) ∷ []) ∵ says ! φ $ done !
 
 -- ---- a function of plain data: the head stays as it is
 module _ (c : Callee (Unit {0}) (Unit {0})) where
@@ -288,7 +311,7 @@ module _ (c : Callee (Unit {0}) (Unit {0})) where
           (λ r. Is (c .Q) r (only (c .vals r) ∷ []) × c .says tt (these 𝓤 H A (c .Rs) g) r tt) (λ _. F)
       by-value = subst (λ (vs : List Val). Comes W run F vs (c .Q .Denot) (λ r. only (c .vals r))
           (λ r. Is (c .Q) r (only (c .vals r) ∷ []) × c .says tt (these 𝓤 H A (c .Rs) g) r tt) (λ _. F)) (flat-is 𝓤 H A 0 tt (c .Rs) g)
-          (told-as 𝓤 H A Of-values Says-of-values W run fm met given-so (c .vals) (c .tells) F (λ x. x .0)
+          (told-as 𝓤 H A Of-values (free 𝓤 Of-values) Says-of-values W run fm met given-so (c .vals) (c .tells) F (λ x. x .0)
           (λ x h. (refl, (h .0, subst (λ a. c .says tt a (x .0) tt) (these-are 𝓤 H A 0 tt (c .Rs) g) (h .1))))
           (use0 W (‵ (owns (typesAt (slots 0 (c .Rs)) tt) (args 𝓤 H A 0 tt (c .Rs) g) (vss 𝓤 H A 0 tt (c .Rs) g)))
           (owns-all 𝓤 H A 0 tt (c .Rs) g) $ nothing ! $ join ! $ nothing ! $ move ! (1 ∷ 0 ∷ []) $ join ! $ done !) (λ x. drop ! $ done !))

@@ -3,7 +3,6 @@ pub mod Walk
 pub mod Plain
 pub mod While
 pub mod Calling
-pub mod Asking
 pub mod Again
 pub mod Own
 pub mod Rows

@@ -44,7 +44,7 @@ use Rattle.dtml.specs.Store.{tx}
 use Rattle.dtml.proofs.Tx as T
 use Rattle.walks.proofs.Walk.{has, bare, begins, leaves, sinks, becomes, held, sets, meets}
 use Rattle.walks.proofs.Plain.{owns-word}
-use Rattle.walks.proofs.Calling.{Comes, comes, relends, promised, Heard, hears, ByValue, by-value, field-of}
+use Rattle.walks.proofs.Calling.{Comes, comes, relends, free, promised, Heard, hears, ByValue, by-value, field-of}
 use Rattle.walks.proofs.Own.{Loan, lent-as, Lender, Lent, lends-own, takes-back}
 use Rattle.walks.proofs.Lent.{array, typed-array, array-records, records-room}
 use Rattle.machine.specs.declared.Held.{Held}
@@ -146,7 +146,7 @@ module _ {M : Type 1} (𝓤 : URA M) (H : Heap 𝓤) (A : Atoms 𝓤) (W : Given
     )
 
     abbrev after : Loan → Val → Item 𝓤
-    after ν = Heard 𝓤 H A rp.ended Replays W C fm known (y₁ ν) (LL.vals E′.the-type EL.the-laws) (LL.tells E′.the-type EL.the-laws)
+    after ν = Heard 𝓤 H A rp.ended (free 𝓤 rp.ended) Replays W C fm known (y₁ ν) (LL.vals E′.the-type EL.the-laws) (LL.tells E′.the-type EL.the-laws)
 
     abbrev Fit : Ends-with → Type 0
     Fit z = (length (z .vol) ≡ length (now vol)) × (length (z .pers) ≡ length (now pers)) × (length (z .old) ≡ length (now old)) × (length (z .txs) ≡ length xs) × (length (z .out) ≡ length (now out))
@@ -187,7 +187,7 @@ module _ {M : Type 1} (𝓤 : URA M) (H : Heap 𝓤) (A : Atoms 𝓤) (W : Given
         -- [what the callee's parameters own; out's token; _; the others, from old's; the loan's; the lender's part]
         move ! (1 ∷ 2 ∷ []) $ join ! $ move ! (6 ∷ 0 ∷ []) $ join ! $ move ! (2 ∷ 0 ∷ []) $ join ! $ move ! (2 ∷ 0 ∷ []) $ join ! $ move ! (2 ∷ 0 ∷ []) $ join ! $ move ! (2 ∷ 0 ∷ []) $ join ! $ join ! $
         nothing ! $ move ! (1 ∷ 0 ∷ []) $
-        use2 W (raw (C (passed (length xs)) (λ v. mean 𝓤 H A (after ν v)))) (hears 𝓤 H A rp.ended Replays W C fm known (y₁ ν) (LL.vals E′.the-type EL.the-laws) (LL.tells E′.the-type EL.the-laws)) $
+        use2 W (raw (C (passed (length xs)) (λ v. mean 𝓤 H A (after ν v)))) (hears 𝓤 H A rp.ended (free 𝓤 rp.ended) Replays W C fm known (y₁ ν) (LL.vals E′.the-type EL.the-laws) (LL.tells E′.the-type EL.the-laws)) $
         at-once ! $ by ! (fm (passed (length xs)) _ (λ v. H .⇛ (ex 𝓤 (Gone v))) (sem 𝓤 H A (Lender T.the-row l 0 ν (length xs))) (back ν)))
 
     -- as a step: the records are as the callee left them

@@ -43,7 +43,7 @@ use Rattle.dtml.proofs.Tx as T
 use Rattle.records.specs.Row.{storedIf}
 use Rattle.walks.proofs.Walk.{has, begins, leaves, sinks, held, sets, meets}
 use Rattle.walks.proofs.Plain.{owns-word, owns-flag}
-use Rattle.walks.proofs.Calling.{comes, relends, count, promised, told, field-of}
+use Rattle.walks.proofs.Calling.{comes, relends, count, free, promised, told, field-of}
 use Rattle.walks.proofs.Lent.{Row, owns-array}
 use Rattle.records.proofs.store_if as si
 use Rattle.records.proofs.store_if.Symbol as si-def
@@ -205,13 +205,13 @@ module _ {M : Type 1} (𝓤 : URA M) (H : Heap 𝓤) (A : Atoms 𝓤) (W : Given
         pass1 ! (init ! 8 refl (LL.lawful H′.the-type HL.the-laws 𝓤 H A W .typed h _ h-is .0)) $ pass1 ! (init ! 9 refl (tt, (tt, (record { fits = r₅ .0 }, tt)))) $ pass0 ! $
         relends ! 4 11 12 refl refl tt tt (r₁ .0) $ relends ! 5 13 14 refl refl tt tt (r₂ .0) $ relends ! 6 15 16 refl refl tt tt (r₃ .0) $
         sets ! (of-opd ! (count ! 7 refl refl)) 17 refl (tt, record { fits = r₄ .0 }) $ relends ! 9 18 19 refl refl tt tt (r₅ .0) $
-        comes ! fm (told 𝓤 H A rb.ended Replays W (C #replay-beside) (fm #replay-beside) known-replay y₁ (LL.vals R′.the-type RL.the-laws) (LL.tells R′.the-type RL.the-laws))
+        comes ! fm (told 𝓤 H A rb.ended (free 𝓤 rb.ended) Replays W (C #replay-beside) (fm #replay-beside) known-replay y₁ (LL.vals R′.the-type RL.the-laws) (LL.tells R′.the-type RL.the-laws))
         (λ i. and-then ! (held ! 3 refl) (and-then ! (held ! 12 refl) (and-then ! (held ! 14 refl) (and-then ! (held ! 16 refl) (and-then ! (held ! 8 refl)
         (and-then ! (held ! 17 refl) (and-then ! (held ! 19 refl) (no-more !)))))))) (λ z e.
         land ! (from ! (stop !)) (init ! 10 refl (LL.lawful R′.the-type RL.the-laws 𝓤 H A W .typed (z .0) _ (e .0) .0)) $
         relends ! 7 21 22 refl refl tt tt (r₄ .0) $ move ! (1 ∷ 0 ∷ []) $
         use1 W (raw (promised 𝓤 H A si.ended Stores .pre (y₂ (z .0)))) (goes-store (z .0) (as-row (z .0 .txs) _ (LL.owed R′.the-type RL.the-laws (z .0) _ (e .0) .1 .1 .0))) $
-        comes ! fm (told 𝓤 H A si.ended Stores W (C #store-if) (fm #store-if) known-store (y₂ (z .0)) nothing-vals nothing-tells)
+        comes ! fm (told 𝓤 H A si.ended (free 𝓤 si.ended) Stores W (C #store-if) (fm #store-if) known-store (y₂ (z .0)) nothing-vals nothing-tells)
         (λ i. and-then ! (held ! 22 refl) (and-then ! (field-of ! 10 1 refl refl tt)
         (and-then ! (field-of ! 10 2 refl refl tt) (no-more !)))) (λ z₂ e₂.
         land ! (from ! (stop !)) (init ! 20 refl (tt, tt)) $

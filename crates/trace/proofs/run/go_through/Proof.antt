@@ -74,8 +74,7 @@ use Rattle.reader.proofs.place.next.Met as next-thm
 use Rattle.walks.proofs.Walk.{Cell, cells, dying, bare, has, lies, begins, leaves, sinks, becomes, held, sets, forgets, forgets-of}
 use Rattle.walks.proofs.While.{whiles, knows}
 use Rattle.walks.proofs.Plain.{word-ok}
-use Rattle.walks.proofs.Calling.{comes, relends, promised, Passed, of, Callee, ByValue, by-value, field-of}
-use Rattle.walks.proofs.Asking.{asked}
+use Rattle.walks.proofs.Calling.{comes, relends, promised, asked, Passed, of, Callee, ByValue, by-value, field-of}
 use Rattle.walks.proofs.Lent.{Row as Records, Fits, array, vals, within-room, records, typed-array, array-records, fetches, store-elem, array-of, whole-array}
 use Rattle.machine.proofs.work.blank.Symbol as blank-def
 use Rattle.machine.proofs.work.blank.Symbol.{name as #blank}

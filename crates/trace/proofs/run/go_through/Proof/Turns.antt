@@ -36,8 +36,7 @@ use Rattle.dtml.proofs.Tx.Laws as X′
 use Rattle.reader.specs.declared.Item.{Item as An-item}
 use Rattle.reader.proofs.Item as I
 use Rattle.reader.proofs.Item.Laws as I′
-use Rattle.walks.proofs.Calling.{Comes}
-use Rattle.walks.proofs.Asking.{asked, asks-so, Heard, hears}
+use Rattle.walks.proofs.Calling.{Comes, owed, asked, asks-so, Heard, hears}
 use Rattle.walks.proofs.Rows.{Row, Has, again, Lender, goes-out, comes-in, Lone, HasOne, one-again, OneLender, one-goes-out, one-comes-in}
 use Rattle.day.specs.Counted.{Few}
 use Rattle.trace.specs.declared.run.Course.{Course}
@@ -137,7 +136,7 @@ module _ {M : Type 1} (𝓤 : URA M) (H : Heap 𝓤) (A : Atoms 𝓤) (W : Given
   Back u r = guard 𝓤 ((u ≡ mach-moved (r .0)) × Got r) (mean 𝓤 H A (All z (r .1)))
 
   abbrev heard-so : Names → Val → Item 𝓤
-  heard-so n = Heard 𝓤 H A turn.ended Asks Says W (y n) run fm met (LL.vals M′.the-type ML.the-laws) (LL.tells M′.the-type ML.the-laws)
+  heard-so n = Heard 𝓤 H A turn.ended (owed 𝓤 turn.ended Asks) Says W run fm met (y n) (LL.vals M′.the-type ML.the-laws) (LL.tells M′.the-type ML.the-laws)
 
   abbrev Lenders : Names → List (Item 𝓤)
   Lenders n = ‵ (Lender (z .v) (w .0) (n .0 .0) (n .0 .1)) ∷ ‵ (Lender (z .p) (w .1 .0) (n .1 .0 .0) (n .1 .0 .1)) ∷ ‵ (Lender (z .o) (w .1 .1 .0) (n .1 .1 .0 .0) (n .1 .1 .0 .1))
@@ -186,6 +185,6 @@ module _ {M : Type 1} (𝓤 : URA M) (H : Heap 𝓤) (A : Atoms 𝓤) (W : Given
         owned ! C′.the-row (Is C′.the-row) (LL.makes C′.the-type CL.the-plain 𝓤 H A) c _ c-is $ fjoin ! $ move ! (10 ∷ 0 ∷ []) $ fjoin ! $ move ! (12 ∷ 0 ∷ []) $ fjoin ! $ move ! (7 ∷ 0 ∷ []) $ fjoin ! $ move ! (4 ∷ 0 ∷ []) $ fjoin ! $ move ! (1 ∷ 0 ∷ []) $ fjoin ! $
         nothing ! $ move ! (9 ∷ 0 ∷ []) $ join ! $ move ! (10 ∷ 0 ∷ []) $ join ! $ move ! (7 ∷ 0 ∷ []) $ join ! $ move ! (5 ∷ 0 ∷ []) $ join ! $ move ! (3 ∷ 0 ∷ []) $ join ! $
         use2 W (raw (asked 𝓤 H A turn.ended Asks Says .pre (y n))) (asks-so 𝓤 H A turn.ended Asks Says W (y n) asks) $
-        use1 W (raw (run passed (λ u. mean 𝓤 H A (heard-so n u)))) (hears 𝓤 H A turn.ended Asks Says W (y n) run fm met (LL.vals M′.the-type ML.the-laws) (LL.tells M′.the-type ML.the-laws)) $
+        use1 W (raw (run passed (λ u. mean 𝓤 H A (heard-so n u)))) (hears 𝓤 H A turn.ended (owed 𝓤 turn.ended Asks) Says W run fm met (y n) (LL.vals M′.the-type ML.the-laws) (LL.tells M′.the-type ML.the-laws)) $
         move ! (0 ∷ 1 ∷ 2 ∷ 3 ∷ 5 ∷ 4 ∷ []) $ at-once ! $ by ! (fm passed _ (λ u. H .⇛ (ex 𝓤 (Back u))) (⋆ 𝓤 H A (Lenders n)) (back n))))))))))));
   }
