@@ -1,7 +1,7 @@
 // Which words are in the log: one mark bit for each word, in four 64-bit numbers, which go by reference.
 // Word w has bit `w % 64` of number `w / 64`. A word of 256 or more is never marked, and marking it changes nothing.
 ghost use mathlib.Core.Path.{_≡_};
-ghost use Prim.Native.Nat.{ℕ, _<_, _^_};
+ghost use Prim.Native.Nat.{ℕ, _≤_, _<_, _^_};
 ghost use lib.ListN.{length, getD};
 ghost use Rattle.bits.specs.Marks.{isMarked, markOf, unmarkOf, clearOf, countOf, lowestOf, standsFrom};
 
@@ -53,9 +53,9 @@ pub fn is_marked(m: &Marks, w: u64) -> bool
     (m[i] >> (w % 64)) % 2 == 1
 }
 
-// How many words are marked.
+// How many words are marked, 256 at the most.
 pub fn count(m: &Marks) -> u64
-    ensures { λ r. ⌜ r ≡ countOf (now (m .entry)) ⌝ }
+    ensures { λ r. ⌜ (r ≡ countOf (now (m .entry))) × (r ≤ 256) ⌝ }
 {
     four(*m);
     let a = u64::count_ones(m[0]) as u64;

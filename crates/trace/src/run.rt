@@ -87,11 +87,6 @@ fn added(totals: Totals, crashes: u64, lines: u64, cut: u64) -> Totals
     }
 }
 
-// What the type of marks tells, four numbers, for one that has a reference to them. It does nothing.
-fn four(marks: Marks)
-    ensures { λ _. ⌜ length marks ≡ 4 ⌝ }
-{}
-
 // The words in the log, which a crash cuts off, unless recovery was under way already.
 fn cut_by_crash(recovery: Recovery, marks: &Marks) -> u64
     ensures { λ r. ⌜ (r ≡ pick (notIdle recovery) 0 (countOf (now (marks .entry)))) × (r ≤ 256) ⌝ }
@@ -99,7 +94,6 @@ fn cut_by_crash(recovery: Recovery, marks: &Marks) -> u64
     if not_idle(recovery) {
         return 0;
     }
-    four(*marks);
     marks::count(marks)
 }
 

@@ -1,6 +1,5 @@
 -- `marks::count` meets its contract: the ones of four numbers, one after another, are the row's count.
--- Each number has at most 64 ones, so no cast and no sum is too large.
--- number i has at most 64 ones
+-- Each number has at most 64 ones, so no cast and no sum is too large, and the sum is no more than 256.
 use Prim.Native.Nat.{ℕ, suc, _+_, _^_, _≤_, _<_}
 use mathlib.Core.Path.{_≡_, ap}
 use mathlib.Core.List.{List}
@@ -60,8 +59,10 @@ unfolding countOf
 returns c =
     let m : List ℕ = c .before .before .before .before .before .before .args .m .now in
     let four : length m ≡ 4 = c .before .before .before .before .four .ensures .0 in
-    let next : (i : ℕ) → i < 4 → countOf (drop i m) ≡ ones (getD m i 0) + countOf (drop (suc i) m) = λ i h. count-next m i (omega arith) (c .before .before .before .before .four .ensures .1 i) in
-    omega (arith, next 0 (omega arith), next 1 (omega arith), next 2 (omega arith), next 3 (omega arith), ap countOf (drop-of-length-le m {i = 4} (omega arith)))
+    let next : (i : ℕ) → i < 4 → countOf (drop i m) ≡ ones (getD m i 0) + countOf (drop (suc i) m) = λ i h. count-next m i (omega arith) (c .before .before .before .before .four .ensures .1 i) in (
+      omega (arith, next 0 (omega arith), next 1 (omega arith), next 2 (omega arith), next 3 (omega arith), ap countOf (drop-of-length-le m {i = 4} (omega arith))),
+      omega (arith, few m (c .before .before .before .before .four .ensures .1)),
+    )
 
 pub count-spec : {M : Type 1} → statement M
 count-spec =

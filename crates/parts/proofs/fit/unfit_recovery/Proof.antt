@@ -43,7 +43,7 @@ returns-2 : tie.Need-returns-2
 returns-2 c = search needs
 
 returns-3 : tie.Need-returns-3
-returns-3 c = rw (c .before .enum-told3 .given .1, c .count .ensures)
+returns-3 c = rw (c .before .enum-told3 .given .1, c .count .ensures .0)
 
 returns-4 : tie.Need-returns-4
 returns-4 c = rw (c .before .recovery .given .1)

@@ -8,10 +8,10 @@ count-requires : tie.Need-count-requires
 count-requires c κs = search needs
 
 returns : tie.Need-returns
-returns c = rw (← (c .before .count .ensures), ne-eqb _ _ (c .if1 .taken))
+returns c = rw (← (c .before .count .ensures .0), ne-eqb _ _ (c .if1 .taken))
 
 returns-2 : tie.Need-returns-2
-returns-2 c = rw (← (c .before .count .ensures), eq-eqb _ _ (c .if1 .left))
+returns-2 c = rw (← (c .before .count .ensures .0), eq-eqb _ _ (c .if1 .left))
 
 pub c1-spec : {M : Type 1} → statement M
 c1-spec = tie.close (tie.spec count-requires returns returns-2)
