@@ -16,16 +16,16 @@ use Rattle.dtml.specs.declared.Recovery.{Recovery}
 use Rattle.dtml.specs.declared.Recovery.the-variants.{Idle, C1, C2, C3, C4, C5, C6}
 use Rattle.dtml.specs.Table.{Reply, says}
 use Rattle.dtml.specs.Store.{Memory, store}
-use Rattle.dtml.specs.Asked.{begin, read, write, commit, step, flush, crash, recover, recoverUpTo, Call, on, sys, Healed}
+use Rattle.dtml.specs.Asked.{begin, read, write, commit, step, flush, crash, recover, recoverUpTo, Call, on, sys, RecoveryDid}
 use Rattle.dtml.specs.Lines.{recoveryLine, anyMark}
 use Rattle.dtml.specs.Checks.{checks, unfit, notIdle}
 use Rattle.dtml.specs.Calls.{upTo, oneMore, system, act, call}
 use Rattle.dtml.specs.History.{Tale, taleAt, last, liveWords, noted, World, tell, runs}
 use Rattle.dtml.specs.Demands.{NoCrash}
-use Rattle.dtml.proofs.Invariant.{Heals, Mode, quiet, writing, sealed, healing, Inv}
+use Rattle.dtml.proofs.Invariant.{Recovers, Mode, quiet, writing, sealed, recovering, Inv}
 use Rattle.dtml.proofs.Words.{true-not-false, pick-case}
 use Rattle.dtml.proofs.Fit.{line-number, up-to-more, up-to-idle}
-use Rattle.dtml.proofs.SystemCalls.{heals, recovery-inv}
+use Rattle.dtml.proofs.SystemCalls.{in-recovery, recovery-inv}
 use Rattle.dtml.proofs.Low.{LowW, tell-low}
 use Rattle.dtml.proofs.Fitness.{never-unfit}
 use Rattle.dtml.proofs.Worlds.{Passes, InvW, acted, tell-act, tell-keeps, tell-inv}
@@ -58,11 +58,11 @@ some-marked k w h = let z = laws .count-unmark k w h in omega arith
 
 module _ (n : ℕ) (m : Memory) (l : List ℕ) where
   -- one line takes one from the lines left
-  line-left : (r : Recovery) → notIdle r ≡ true → Heals n m l r → leftIn (recoveryLine m r .mem) (recoveryLine m r .rec) + 1 ≡ leftIn m r
+  line-left : (r : Recovery) → notIdle r ≡ true → Recovers n m l r → leftIn (recoveryLine m r .mem) (recoveryLine m r .rec) + 1 ≡ leftIn m r
   unfolding recoveryLine
   line-left Idle a h = absurd h
   line-left C1 a h =
-      pick-case (λ (d : Healed). leftIn (d .mem) (d .rec) + 1 ≡ leftIn m C1) (anyMark (m .marks))
+      pick-case (λ (d : RecoveryDid). leftIn (d .mem) (d .rec) + 1 ≡ leftIn m C1) (anyMark (m .marks))
       (λ e. omega arith)
       (λ e. let z : countOf (m .marks) ≡ 0 = eqb-true (countOf (m .marks)) 0 (not-false _ e) in omega arith)
   line-left C2 a h = omega arith
@@ -72,7 +72,7 @@ module _ (n : ℕ) (m : Memory) (l : List ℕ) where
   line-left C6 a h = omega arith
 
   -- at most four less than after a crash
-  left-near : (r : Recovery) → Heals n m l r → 5 * countOf (m .marks) + 2 ≤ leftIn m r + 4
+  left-near : (r : Recovery) → Recovers n m l r → 5 * countOf (m .marks) + 2 ≤ leftIn m r + 4
   left-near Idle h = absurd h
   left-near C1 h = omega arith
   left-near C2 h = omega arith
@@ -90,16 +90,16 @@ leb-suc : (a b c : ℕ) → a + 1 ≡ c → leb c (suc b) ≡ leb a b
 leb-suc a b c e = ap (λ (x : ℕ). leb x (suc b)) (sym e ∙ add-one a) ∙ leb·suc-suc a b
 
 -- what a run of lines answers, and that it takes as many from the lines left
-abbrev Run : ℕ → ℕ → Memory → Recovery → Healed → Type 0
+abbrev Run : ℕ → ℕ → Memory → Recovery → RecoveryDid → Type 0
 Run b v m r h =
     (h .reply ≡ says (pick (leb (leftIn m r) b) 6 0) (v + min b (leftIn m r)))
     × (min b (leftIn m r) + leftIn (h .mem) (h .rec) ≡ leftIn m r)
 
 module _ (n : ℕ) (ts : List Tx) (ks : List Tale) (l : List ℕ) where
-  -- a line of a store that recovery heals
+  -- a line of a store in which recovery is under way
   pub inv-left : (m : Memory) (r : Recovery) → Inv n m r ts ks l → notIdle r ≡ true
       → leftIn (recoveryLine m r .mem) (recoveryLine m r .rec) + 1 ≡ leftIn m r
-  inv-left m r inv a = line-left n m l r a (heals n ts ks l m r a inv .0)
+  inv-left m r inv a = line-left n m l r a (in-recovery n ts ks l m r a inv .0)
 
   pub up-to-run : (b v : ℕ) (m : Memory) (r : Recovery) → Inv n m r ts ks l → notIdle r ≡ true → Run b v m r (upTo b (says 0 v) m r)
   unfolding upTo
@@ -109,7 +109,7 @@ module _ (n : ℕ) (ts : List Tx) (ks : List Tale) (l : List ℕ) where
   up-to-run (suc b) v m r inv a =
       subst (Run (suc b) v m r) (sym (up-to-more b (says 0 v) m r a)) (go (notIdle (h .rec)) refl (up-to-run b (v + 1) (h .mem) (h .rec) (recovery-inv n ts ks l m r inv)))
     where
-      h : Healed
+      h : RecoveryDid
       h = recoveryLine m r
 
       one : leftIn (h .mem) (h .rec) + 1 ≡ leftIn m r
@@ -207,7 +207,7 @@ crash-pays n w inv = go (inv .mode)
         let y = own .0 .2 in
         omega arith
     go (sealed o ho i e ev end others) = omega (arith, e)
-    go (healing i h all) = let z = left-near n (w .store .mem) (last (w .past)) (w .store .rec) h in omega arith
+    go (recovering i h all) = let z = left-near n (w .store .mem) (last (w .past)) (w .store .rec) h in omega arith
 
 act-paid : (n : ℕ) (w : World) (c : Call) → InvW n w → Paid w → Passes (checks (w .store) c) → Paid (acted w c)
 unfolding acted act noted system
@@ -250,8 +250,8 @@ unfolding call
 recovers-upTo w b f a = rw (f, a)
 
 -- the world with another memory, recovery and number of recovery lines
-abbrev healedTo : World → Memory → Recovery → ℕ → World
-healedTo w m r k = record {
+abbrev recoveredTo : World → Memory → Recovery → ℕ → World
+recoveredTo w m r k = record {
   store = store m r (w .store .txs);
   past = record {
     first = w .past .first;
@@ -263,14 +263,14 @@ healedTo w m r k = record {
   };
 }
 
-same-healed : (w : World) {m m′ : Memory} {r r′ : Recovery} {k k′ : ℕ} → m ≡ m′ → r ≡ r′ → k ≡ k′ → healedTo w m r k ≡ healedTo w m′ r′ k′
-same-healed w p q e = λ i. healedTo w (p i) (q i) (e i)
+same-recovered : (w : World) {m m′ : Memory} {r r′ : Recovery} {k k′ : ℕ} → m ≡ m′ → r ≡ r′ → k ≡ k′ → recoveredTo w m r k ≡ recoveredTo w m′ r′ k′
+same-recovered w p q e = λ i. recoveredTo w (p i) (q i) (e i)
 
 pub many-lines : (n b : ℕ) (w : World) → InvW n w → LowW w → notIdle (w .store .rec) ≡ true
     → acted w (sys (recoverUpTo b)) ≡ runs w (replicate (min b (leftIn (w .store .mem) (w .store .rec))) (sys recover))
 unfolding acted act system noted runs upTo
 many-lines n zero w inv low a =
-    same-healed w {m = w .store .mem} {r = w .store .rec} refl refl (omega arith)
+    same-recovered w {m = w .store .mem} {r = w .store .rec} refl refl (omega arith)
     ∙ ap (λ k. runs w (replicate k (sys recover))) (let z : 0 ≡ min 0 (leftIn (w .store .mem) (w .store .rec)) = omega arith in z)
 many-lines n (suc b) w inv low a =
     go (notIdle (h .rec)) refl (λ i. many-lines n b next (subst (InvW n) here (tell-inv n w (sys recover) inv)) (subst LowW here (tell-low n w (sys recover) inv low)) i)
@@ -283,7 +283,7 @@ many-lines n (suc b) w inv low a =
     r : Recovery
     r = w .store .rec
 
-    h : Healed
+    h : RecoveryDid
     h = recoveryLine m r
 
     next : World
@@ -316,11 +316,11 @@ many-lines n (suc b) w inv low a =
         let same = up-to-same b (says (h .reply .number) 1) (says 0 0) (h .mem) (h .rec) in
         let z = one in
         let y = told in
-        same-healed w (ap (λ x. x .mem) after ∙ same .0) (ap (λ x. x .rec) after ∙ same .1) (omega arith) ∙ rest i
+        same-recovered w (ap (λ x. x .mem) after ∙ same .0) (ap (λ x. x .rec) after ∙ same .1) (omega arith) ∙ rest i
     go false i rest =
         let none : less ≡ 0 = idle-left (h .rec) (countOf (h .mem .marks)) i in
         let done = up-to-idle b (says (h .reply .number) 1) (h .mem) (h .rec) i in
         let z = one in
         let y = told in
-        same-healed w (ap (λ x. x .mem) (after ∙ done)) (ap (λ x. x .rec) (after ∙ done)) (omega arith)
+        same-recovered w (ap (λ x. x .mem) (after ∙ done)) (ap (λ x. x .rec) (after ∙ done)) (omega arith)
         ∙ ap (λ k. runs next (replicate k (sys recover))) (let x : 0 ≡ min b less = omega arith in x)

@@ -18,7 +18,7 @@ use Rattle.dtml.specs.Checks.{unfit, notIdle}
 use Rattle.dtml.specs.Calls.{system, act, call}
 use Rattle.dtml.specs.Counting.{crashesIn, linesIn, cutIn}
 use Rattle.dtml.specs.History.{Tale, Past, taleAt, last, liveWords, noted, World, tell}
-use Rattle.dtml.proofs.Invariant.{Free, Over, Plain, Ender, Mode, quiet, writing, sealed, healing}
+use Rattle.dtml.proofs.Invariant.{Free, Over, Plain, Ender, Mode, quiet, writing, sealed, recovering}
 use Rattle.dtml.proofs.Words.{pick-case}
 use Rattle.dtml.proofs.Worlds.{InvW}
 use Rattle.dtml.proofs.Low.{LowW}
@@ -112,7 +112,7 @@ entered-words n w inv = go (inv .mode)
     go (sealed o ho i e ev end others) =
         rw (i, e)
         (one-live ks o (rw long ho) (λ t ht d. free t (others t (rw long at ht) d)) ∙ ender-share (w .store .mem .glb) (last (w .past)) (recordAt (w .store .txs) o .loc) (recordAt (w .store .txs) o .phase) (taleAt ks o) end)
-    go (healing i h all) = rw i (none-live ks (λ t ht. over-share (taleAt ks t) (all t (rw long at ht) .1)))
+    go (recovering i h all) = rw i (none-live ks (λ t ht. over-share (taleAt ks t) (all t (rw long at ht) .1)))
 
 -- ---- what a call adds
 

@@ -17,12 +17,12 @@ use Rattle.dtml.specs.declared.Tx.{Tx}
 use Rattle.dtml.specs.declared.Recovery.{Recovery}
 use Rattle.dtml.specs.Table.{says}
 use Rattle.dtml.specs.Store.{Memory, recordAt, fresh}
-use Rattle.dtml.specs.Asked.{begin, read, write, commit, step, flush, crash, recover, recoverUpTo, Call, on, sys, Did, Healed}
+use Rattle.dtml.specs.Asked.{begin, read, write, commit, step, flush, crash, recover, recoverUpTo, Call, on, sys, Did, RecoveryDid}
 use Rattle.dtml.specs.Lines.{lineAt, recoveryLine, even}
 use Rattle.dtml.specs.Checks.{checks, unfit, notIdle}
 use Rattle.dtml.specs.Calls.{ask, upTo, system, act, call, refused}
 use Rattle.dtml.specs.History.{over, sees, Tale, liveWords, last, laterAfter, taleAt, isE2, noted, World, tell, dawn, runs}
-use Rattle.dtml.specs.Demands.{Size, after, number, value, CommittedMemories, Durable, BothSides, WholeWhenHealed, WholeWhenIdle, WordsInLog, NeverIdle, CutBeforeE2, CutAfterE2, Reads, RecoveryCost, EnteredOnce, NoCrash, crashed, logged, ExactCost, linesLeft, Allowance, NothingUnfit}
+use Rattle.dtml.specs.Demands.{Size, after, number, value, CommittedMemories, Durable, BothSides, WholeWhenRecovered, WholeWhenIdle, WordsInLog, NeverIdle, CutBeforeE2, CutAfterE2, Reads, RecoveryCost, EnteredOnce, NoCrash, crashed, logged, ExactCost, linesLeft, Allowance, NothingUnfit}
 use Rattle.dtml.proofs.Invariant.{Free, Owner, Ender}
 use Rattle.dtml.proofs.Words.{true-or-false, true-not-false, pick-case, is-idle, idle-is, busy-is, none-marked, sees-agree}
 use Rattle.dtml.proofs.Roles.{Role, free, owner, ender, role}
@@ -31,7 +31,7 @@ use Rattle.dtml.proofs.Tales.{is-E2, runs-tales, dawn-tales}
 use Rattle.dtml.proofs.Low.{LowW, tell-low, glb-low}
 use Rattle.dtml.proofs.Fit.{line-number}
 use Rattle.dtml.proofs.Fitness.{never-unfit, fine, fine-after, not-nine}
-use Rattle.dtml.proofs.SystemCalls.{heals}
+use Rattle.dtml.proofs.SystemCalls.{in-recovery}
 use Rattle.dtml.proofs.Counts.{entered-words}
 use Rattle.dtml.proofs.Cost.{leftIn, idle-left, inv-left, up-to-run, sum, runs-sum, runs-paid, recovers-upTo, many-lines}
 
@@ -102,12 +102,12 @@ pub words-in-log : WordsInLog
 words-in-log n cs z =
     let e = entered-words n (after n cs) (fine-after n cs (z .0) (z .1) .0) in ((λ i. rw (is-idle _ i) at e), (λ f. rw (busy-is _ f) at e))
 
--- a world in which some call answers 6 is one that recovery heals
+-- a world in which some call answers 6 is one in which recovery is under way
 module _ (n : ℕ) (w : World) (inv : InvW n w) where
   -- a call that finds recovery not idle and leaves it idle, with the tales as they were
-  healed-whole : (v : World) → InvW n v → notIdle (w .store .rec) ≡ true → v .past .tales ≡ w .past .tales → last (v .past) ≡ last (w .past)
+  recovered-whole : (v : World) → InvW n v → notIdle (w .store .rec) ≡ true → v .past .tales ≡ w .past .tales → last (v .past) ≡ last (w .past)
       → notIdle (v .store .rec) ≡ false → BothSides (v .store .mem) (last (w .past))
-  healed-whole v inv′ a same kept i =
+  recovered-whole v inv′ a same kept i =
       subst (BothSides (v .store .mem)) kept (idle-whole n v inv′ i (ap liveWords same ∙ (rw a at (entered-words n w inv))))
 
   -- lines up to an allowance answer 6 only where none is left
@@ -119,7 +119,7 @@ module _ (n : ℕ) (w : World) (inv : InvW n w) where
       L : ℕ
       L = leftIn (w .store .mem) (w .store .rec)
 
-      U : Healed
+      U : RecoveryDid
       U = upTo b (says 0 0) (w .store .mem) (w .store .rec)
 
       ran : (U .reply ≡ says (pick (leb L b) 6 0) (0 + min b L)) × (min b L + leftIn (U .mem) (U .rec) ≡ L)
@@ -149,7 +149,7 @@ module _ (n : ℕ) (w : World) (inv : InvW n w) where
       absurd (omega arith)
   six-whole (sys (flush x)) p e inv′ = absurd (omega arith)
   six-whole (sys crash) p e inv′ = absurd (omega arith)
-  six-whole (sys recover) p e inv′ = healed-whole (acted w (sys recover)) inv′ a refl refl (go (notIdle (recoveryLine (w .store .mem) (w .store .rec) .rec)) refl)
+  six-whole (sys recover) p e inv′ = recovered-whole (acted w (sys recover)) inv′ a refl refl (go (notIdle (recoveryLine (w .store .mem) (w .store .rec) .rec)) refl)
     where
       a : notIdle (w .store .rec) ≡ true
       a = not-false _ (p .1 .0)
@@ -161,7 +161,7 @@ module _ (n : ℕ) (w : World) (inv : InvW n w) where
           ap (λ x. x .number) (line-number (w .store .mem) (w .store .rec) a) ∙ ap (λ d. pick d 0 6) ed in
           absurd (omega arith)
   six-whole (sys (recoverUpTo b)) p e inv′ =
-      healed-whole (acted w (sys (recoverUpTo b))) inv′ (not-false _ (p .1 .0)) refl refl (none-left b (not-false _ (p .1 .0)) inv′ e)
+      recovered-whole (acted w (sys (recoverUpTo b))) inv′ (not-false _ (p .1 .0)) refl refl (none-left b (not-false _ (p .1 .0)) inv′ e)
 
   pub six : (c : Call) → number w c ≡ 6 → BothSides (tell w c .store .mem) (last (w .past))
   six c e =
@@ -170,27 +170,27 @@ module _ (n : ℕ) (w : World) (inv : InvW n w) where
       subst (λ v. BothSides (v .store .mem) (last (w .past))) (sym here)
       (six-whole c (done .0) (sym (ap (λ o. o .reply .number) (done .1)) ∙ e) (subst (InvW n) here (tell-inv n w c inv)))
 
-pub whole-when-healed : WholeWhenHealed
-whole-when-healed n cs c z e = six n (after n cs) (fine-after n cs (z .0) (z .1) .0) c e
+pub whole-when-recovered : WholeWhenRecovered
+whole-when-recovered n cs c z e = six n (after n cs) (fine-after n cs (z .0) (z .1) .0) c e
 
 -- while recovery is not idle nothing is committed
-healing-kept : (w : World) (c : Call) → notIdle (w .store .rec) ≡ true → Passes (checks (w .store) c) → last (acted w c .past) ≡ last (w .past)
+recovering-kept : (w : World) (c : Call) → notIdle (w .store .rec) ≡ true → Passes (checks (w .store) c) → last (acted w c .past) ≡ last (w .past)
 unfolding acted noted
-healing-kept w (on t begin) a p = absurd (true-not-false a (p .1 .1 .0))
-healing-kept w (on t (read x)) a p = absurd (true-not-false a (p .1 .1 .1 .0))
-healing-kept w (on t (write x v)) a p = absurd (true-not-false a (p .1 .1 .1 .0))
-healing-kept w (on t commit) a p = absurd (true-not-false a (p .1 .1 .0))
-healing-kept w (on t step) a p = absurd (true-not-false a (p .1 .1 .0))
-healing-kept w (sys (flush x)) a p = refl
-healing-kept w (sys crash) a p = refl
-healing-kept w (sys recover) a p = refl
-healing-kept w (sys (recoverUpTo b)) a p = refl
+recovering-kept w (on t begin) a p = absurd (true-not-false a (p .1 .1 .0))
+recovering-kept w (on t (read x)) a p = absurd (true-not-false a (p .1 .1 .1 .0))
+recovering-kept w (on t (write x v)) a p = absurd (true-not-false a (p .1 .1 .1 .0))
+recovering-kept w (on t commit) a p = absurd (true-not-false a (p .1 .1 .0))
+recovering-kept w (on t step) a p = absurd (true-not-false a (p .1 .1 .0))
+recovering-kept w (sys (flush x)) a p = refl
+recovering-kept w (sys crash) a p = refl
+recovering-kept w (sys recover) a p = refl
+recovering-kept w (sys (recoverUpTo b)) a p = refl
 
-healing-last : (w : World) (cs : List Call) → NeverIdle w cs → last (runs w cs .past) ≡ last (w .past)
+recovering-last : (w : World) (cs : List Call) → NeverIdle w cs → last (runs w cs .past) ≡ last (w .past)
 unfolding runs
-healing-last w [] h = refl
-healing-last w (c ∷ cs) h =
-    healing-last (tell w c) cs (h .1) ∙ tell-keeps (λ v. last (v .past) ≡ last (w .past)) w c refl (healing-kept w c (busy-is _ (h .0)))
+recovering-last w [] h = refl
+recovering-last w (c ∷ cs) h =
+    recovering-last (tell w c) cs (h .1) ∙ tell-keeps (λ v. last (v .past) ≡ last (w .past)) w c refl (recovering-kept w c (busy-is _ (h .0)))
 
 crash-last : (w : World) → last (tell w (sys crash) .past) ≡ last (w .past)
 unfolding acted noted
@@ -201,7 +201,7 @@ cut-before-E2 n cs ds c z h e =
     let w = tell (after n cs) (sys crash) in
     let start = fine-after n cs (z .0) (z .1) in
     let ok = fine n w ds (tell-inv n (after n cs) (sys crash) (start .0)) (tell-low n (after n cs) (sys crash) (start .0) (start .1)) in
-    subst (BothSides (tell (runs w ds) c .store .mem)) (healing-last w ds h ∙ crash-last (after n cs)) (six n (runs w ds) (ok .0) c e)
+    subst (BothSides (tell (runs w ds) c .store .mem)) (recovering-last w ds h ∙ crash-last (after n cs)) (six n (runs w ds) (ok .0) c e)
 
 pub cut-after-E2 : CutAfterE2
 cut-after-E2 n cs t z ht e = runs-tales n (dawn n) cs (dawn-inv n (z .0) (z .1)) (dawn-tales n) .behind t ht e

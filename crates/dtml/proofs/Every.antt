@@ -18,14 +18,14 @@ use Rattle.dtml.specs.declared.Recovery.{Recovery}
 use Rattle.dtml.specs.declared.Recovery.the-variants.{Idle, C1, C2}
 use Rattle.dtml.specs.Table.{Reply, says}
 use Rattle.dtml.specs.Store.{Memory, memory, Store, store, size, recordAt, tx, fresh}
-use Rattle.dtml.specs.Asked.{Ask, begin, read, write, commit, step, flush, crash, recover, recoverUpTo, Call, on, sys, Did, did, Healed, healed, Outcome, outcome}
+use Rattle.dtml.specs.Asked.{Ask, begin, read, write, commit, step, flush, crash, recover, recoverUpTo, Call, on, sys, Did, did, RecoveryDid, recoveryDid, Outcome, outcome}
 use Rattle.dtml.specs.Lines.{lineAt, recoveryLine, stage, isLive, crashTx, crashTxs, flushOf}
 use Rattle.dtml.specs.First.{Check, first}
 use Rattle.dtml.specs.Checks.{checks, unfit, unfitMemory, unfitRecovery, notIdle}
 use Rattle.dtml.specs.Calls.{ask, upTo, system, act, call, refused, makeFresh}
 use Rattle.dtml.specs.Figure1.{RecoveryLine, c1-some, c1-none, c2, c3, c4, c5, c6}
 use Rattle.dtml.specs.Rules as rule
-use Rattle.dtml.specs.Rules.{by-read, by-write, by-flush, Condition, order, FirstOf, NoneOf, FirstLine, Over, Cut, over, cut-off, RecoveryLines, Does, invokes, steps, flushes, crashes, recovers, spends, finishes, IsFresh, MadeFresh, made}
+use Rattle.dtml.specs.Rules.{by-read, by-write, by-flush, Condition, order, FirstOf, NoneOf, FirstLine, Over, Cut, stays, cut-off, RecoveryLines, Does, invokes, steps, flushes, crashes, recovers, spends, finishes, IsFresh, MadeFresh, made}
 use Rattle.dtml.specs.History.{dawn, runs}
 use Rattle.dtml.specs.Demands.{after, EveryCall}
 use Rattle.dtml.proofs.Words.{true-or-false, true-not-false, is-idle, idle-is, busy-is}
@@ -155,10 +155,10 @@ cut-tx t = go (isLive (stage (t .phase))) refl
   where
     go : (d : Bool) → isLive (stage (t .phase)) ≡ d → Cut t (tx (t .loc) (pick (isLive (stage (t .phase))) Aborted (t .phase)))
     go true e = cut-off (λ o. true-not-false e (not-live (t .phase) o)) (ap (λ d. tx (t .loc) (pick d Aborted (t .phase))) e)
-    go false e = over (ended (t .phase) e) (ap (λ d. tx (t .loc) (pick d Aborted (t .phase))) e)
+    go false e = stays (ended (t .phase) e) (ap (λ d. tx (t .loc) (pick d Aborted (t .phase))) e)
 
 only-cut : (t u : Tx) → Cut t u → u ≡ crashTx t
-only-cut t u (over o q) = q ∙ sym (ap (λ d. tx (t .loc) (pick d Aborted (t .phase))) (not-live (t .phase) o))
+only-cut t u (stays o q) = q ∙ sym (ap (λ d. tx (t .loc) (pick d Aborted (t .phase))) (not-live (t .phase) o))
 only-cut t u (cut-off f q) = go (isLive (stage (t .phase))) refl
   where
     go : (d : Bool) → isLive (stage (t .phase)) ≡ d → u ≡ tx (t .loc) (pick (isLive (stage (t .phase))) Aborted (t .phase))
@@ -179,7 +179,7 @@ only-crashed ts us l f =
 
 -- ---- recovery
 
-line-busy : (m : Memory) (r : Recovery) (h : Healed) → RecoveryLine m r h → notIdle r ≡ true
+line-busy : (m : Memory) (r : Recovery) (h : RecoveryDid) → RecoveryLine m r h → notIdle r ≡ true
 line-busy m r h (c1-some w e s q) = ap notIdle e
 line-busy m r h (c1-none e s q) = ap notIdle e
 line-busy m r h (c2 w e s b q) = ap notIdle e
@@ -196,15 +196,15 @@ marked-C2 m r f e = fit-C2 r e (memory-fits m r f .recovery-in)
     fit-C2 r e h c = eqb-false (countOf (m .marks)) 0 (subst (λ x. unfitRecovery (length (m .vol)) (m .marks) x ≡ false) e h) c
 
 -- one line, of those that are allowed
-one-line : (b : ℕ) (a : Reply) (m : Memory) (r : Recovery) (h : Healed) → RecoveryLine m r h
+one-line : (b : ℕ) (a : Reply) (m : Memory) (r : Recovery) (h : RecoveryDid) → RecoveryLine m r h
     → upTo (suc b) a m r ≡ upTo b (says (pick (notIdle (h .rec)) 0 6) (a .value + 1)) (h .mem) (h .rec)
 one-line b a m r h l =
     let i = line-busy m r h l in
     let e = only-figure-recovery m r h l in
     up-to-more b a m r i
-    ∙ ap (λ (x : Healed). upTo b (says (x .reply .number) (a .value + 1)) (x .mem) (x .rec)) (sym e)
+    ∙ ap (λ (x : RecoveryDid). upTo b (says (x .reply .number) (a .value + 1)) (x .mem) (x .rec)) (sym e)
     ∙ ap (λ (x : Reply). upTo b (says (x .number) (a .value + 1)) (h .mem) (h .rec))
-    (ap (λ (x : Healed). x .reply) e ∙ line-number m r i ∙ ap (λ (x : Healed). says (pick (notIdle (x .rec)) 0 6) 0) (sym e))
+    (ap (λ (x : RecoveryDid). x .reply) e ∙ line-number m r i ∙ ap (λ (x : RecoveryDid). says (pick (notIdle (x .rec)) 0 6) 0) (sym e))
 
 -- so many lines, of those that are allowed, lead to where the rest goes on
 many-lines : (k b : ℕ) (a : Reply) (m : Memory) (r : Recovery) (m′ : Memory) (r′ : Recovery) → RecoveryLines (suc k) m r m′ r′
@@ -228,7 +228,7 @@ some-lines : (b : ℕ) (m : Memory) (r : Recovery) → notIdle r ≡ true → un
 some-lines zero m r i f = inr (m, r, (refl, refl), λ e. true-not-false i (is-idle r e))
 some-lines (suc b) m r i f = go (some-lines b (recoveryLine m r .mem) (recoveryLine m r .rec)) (true-or-false (notIdle (h .rec)))
   where
-    h : Healed
+    h : RecoveryDid
     h = recoveryLine m r
 
     l : RecoveryLine m r h
@@ -242,18 +242,18 @@ some-lines (suc b) m r i f = go (some-lines b (recoveryLine m r .mem) (recoveryL
         on-from (inl x) = inl (suc (x .0), x .1, (let z = x .2 in omega arith), (h, l, x .3))
         on-from (inr x) = inr (x .0, x .1, (h, l, x .2), x .3)
 
-spent : (b : ℕ) (m : Memory) (r : Recovery) (m′ : Memory) (r′ : Recovery) → RecoveryLines b m r m′ r′ → (r′ ≡ Idle → ⊥) → upTo b (says 0 0) m r ≡ healed (says 0 b) m′ r′
+spent : (b : ℕ) (m : Memory) (r : Recovery) (m′ : Memory) (r′ : Recovery) → RecoveryLines b m r m′ r′ → (r′ ≡ Idle → ⊥) → upTo b (says 0 0) m r ≡ recoveryDid (says 0 b) m′ r′
 unfolding upTo
-spent zero m r m′ r′ ls f = ap (λ (x : Memory). healed (says 0 0) x r) (sym (ls .0)) ∙ ap (healed (says 0 0) m′) (sym (ls .1))
+spent zero m r m′ r′ ls f = ap (λ (x : Memory). recoveryDid (says 0 0) x r) (sym (ls .0)) ∙ ap (recoveryDid (says 0 0) m′) (sym (ls .1))
 spent (suc k) m r m′ r′ ls f =
     let all : suc k ≡ suc k + 0 = omega arith in
     let value : 0 + suc k ≡ suc k = omega arith in
     ap (λ b. upTo b (says 0 0) m r) all
     ∙ many-lines k 0 (says 0 0) m r m′ r′ ls
-    ∙ ap (λ d. healed (says (pick d 0 6) (0 + suc k)) m′ r′) (busy-is r′ f)
-    ∙ ap (λ n. healed (says 0 n) m′ r′) value
+    ∙ ap (λ d. recoveryDid (says (pick d 0 6) (0 + suc k)) m′ r′) (busy-is r′ f)
+    ∙ ap (λ n. recoveryDid (says 0 n) m′ r′) value
 
-finished : (b k : ℕ) (m : Memory) (r : Recovery) (m′ : Memory) → notIdle r ≡ true → k ≤ b → RecoveryLines k m r m′ Idle → upTo b (says 0 0) m r ≡ healed (says 6 k) m′ Idle
+finished : (b k : ℕ) (m : Memory) (r : Recovery) (m′ : Memory) → notIdle r ≡ true → k ≤ b → RecoveryLines k m r m′ Idle → upTo b (says 0 0) m r ≡ recoveryDid (says 6 k) m′ Idle
 finished b zero m r m′ i h ls = absurd (true-not-false i (is-idle r (sym (ls .1))))
 finished b (suc k) m r m′ i h ls =
     let all : b ≡ suc k + (b - suc k) = omega arith in
@@ -261,7 +261,7 @@ finished b (suc k) m r m′ i h ls =
     ap (λ n. upTo n (says 0 0) m r) all
     ∙ many-lines k (b - suc k) (says 0 0) m r m′ Idle ls
     ∙ up-to-idle (b - suc k) (says 6 (0 + suc k)) m′ Idle refl
-    ∙ ap (λ n. healed (says 6 n) m′ Idle) value
+    ∙ ap (λ n. recoveryDid (says 6 n) m′ Idle) value
 
 -- ---- what is carried out
 
@@ -293,12 +293,12 @@ module _ (s : Store) where
           ∙ ap (λ x. outcome (says 0 0) (store (memory (s .mem .pers) (s .mem .pers) (s .mem .old) (s .mem .marks) 0) x (o .store .txs))) r
           ∙ ap (λ x. outcome (says 0 0) (store (memory (s .mem .pers) (s .mem .pers) (s .mem .old) (s .mem .marks) 0) C1 x)) ts
   only c o i (recovers h e l q) =
-      q ∙ ap (λ (x : Healed). outcome (x .reply) (store (x .mem) (x .rec) (s .txs))) (only-figure-recovery _ _ h l) ∙ ap (act s) (sym e)
+      q ∙ ap (λ (x : RecoveryDid). outcome (x .reply) (store (x .mem) (x .rec) (s .txs))) (only-figure-recovery _ _ h l) ∙ ap (act s) (sym e)
   only c o i (spends b m r e ls f q) =
-      q ∙ ap (λ (x : Healed). outcome (x .reply) (store (x .mem) (x .rec) (s .txs))) (sym (spent b (s .mem) (s .rec) m r ls f)) ∙ ap (act s) (sym e)
+      q ∙ ap (λ (x : RecoveryDid). outcome (x .reply) (store (x .mem) (x .rec) (s .txs))) (sym (spent b (s .mem) (s .rec) m r ls f)) ∙ ap (act s) (sym e)
   only c o (inl i) (finishes b k m e h ls q) =
       q
-      ∙ ap (λ (x : Healed). outcome (x .reply) (store (x .mem) (x .rec) (s .txs))) (sym (finished b k (s .mem) (s .rec) m (busy-is _ i) h ls))
+      ∙ ap (λ (x : RecoveryDid). outcome (x .reply) (store (x .mem) (x .rec) (s .txs))) (sym (finished b k (s .mem) (s .rec) m (busy-is _ i) h ls))
       ∙ ap (act s) (sym e)
   only c o (inr i) (finishes b k m e h ls q) = absurd (i b e)
 

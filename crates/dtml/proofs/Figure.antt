@@ -17,7 +17,7 @@ use Rattle.dtml.specs.declared.Recovery.{Recovery}
 use Rattle.dtml.specs.declared.Recovery.the-variants.{Idle, C1, C2, C3, C4, C5, C6}
 use Rattle.dtml.specs.Table.{says}
 use Rattle.dtml.specs.Store.{Memory, memory, tx}
-use Rattle.dtml.specs.Asked.{Did, did, Healed, healed}
+use Rattle.dtml.specs.Asked.{Did, did, RecoveryDid, recoveryDid}
 use Rattle.dtml.specs.Lines.{lineAt, recoveryLine, even, stage, anyMark, flushOf}
 use Rattle.dtml.specs.Checks.{isAtLine, notIdle}
 use Rattle.dtml.specs.Figure1.{Line, b1, b2-even, b2-odd, r1, r2-same, r2-other, w1-even, w1-odd, w2-same, w2-other, w3, w4-in, w4-out, w5, w6, w7, e1-odd, e1-even, e2, e3, RecoveryLine, c1-some, c1-none, c2, c3, c4, c5, c6}
@@ -123,7 +123,7 @@ in-figure-recovery m (C4 w v) h some = c4 w v refl refl
 in-figure-recovery m (C5 w v) h some = c5 w v refl refl
 in-figure-recovery m C6 h some = c6 refl refl
 
-pub only-figure-recovery : (m : Memory) (r : Recovery) (h : Healed) → RecoveryLine m r h → h ≡ recoveryLine m r
+pub only-figure-recovery : (m : Memory) (r : Recovery) (h : RecoveryDid) → RecoveryLine m r h → h ≡ recoveryLine m r
 unfolding recoveryLine flushOf
 only-figure-recovery m r h (c1-some w e s q) =
     q ∙ picked-true (anyMark (m .marks)) _ _ (ap not (ne-eqb _ _ (some-marked (m .marks) w s))) ∙ ap (recoveryLine m) (sym e)
@@ -131,7 +131,7 @@ only-figure-recovery m r h (c1-none e s q) =
     q ∙ picked-false (anyMark (m .marks)) _ _ (ap not (eq-eqb _ _ (all-unmarked (m .marks) s))) ∙ ap (recoveryLine m) (sym e)
 only-figure-recovery m r h (c2 w e s below q) =
     q
-    ∙ ap (λ x. healed (says 0 0) m (C3 x (getD (m .old) x 0))) (is-lowest (m .marks) w s below)
+    ∙ ap (λ x. recoveryDid (says 0 0) m (C3 x (getD (m .old) x 0))) (is-lowest (m .marks) w s below)
     ∙ ap (recoveryLine m) (sym e)
 only-figure-recovery m r h (c3 w v e q) = q ∙ ap (recoveryLine m) (sym e)
 only-figure-recovery m r h (c4 w v e q) = q ∙ ap (recoveryLine m) (sym e)

@@ -15,8 +15,8 @@ use Rattle.dtml.specs.declared.Recovery.{Recovery}
 use Rattle.dtml.specs.declared.Recovery.the-variants.{Idle, C1, C2, C3, C4, C5, C6}
 use Rattle.dtml.specs.Table.{Reply, says}
 use Rattle.dtml.specs.Store.{Memory}
-use Rattle.dtml.specs.Asked.{healed}
-use Rattle.dtml.specs.Lines.{heal, withMarks, choose, anyMark, recoveryLine}
+use Rattle.dtml.specs.Asked.{recoveryDid}
+use Rattle.dtml.specs.Lines.{recoverTo, withMarks, choose, anyMark, recoveryLine}
 use Rattle.dtml.specs.First.{anyOf}
 use Rattle.dtml.specs.Checks.{unfitRows, phasePast, unfitRecovery, unfitTx, unfitBeside, unfitMemory, unfitOne, notIdle}
 use Rattle.dtml.specs.Calls.{oneMore, upTo}
@@ -180,7 +180,7 @@ moved {k = k} {g = g} r′ f there = changed k g r′ f (f .marks-in) (f .glb-lo
 
 -- C1 goes to C2 only with a mark
 after-c1 : (m : Memory) (b : Bool) → eqb (countOf (m .marks)) 0 ≡ b → FitMemory m C1
-    → unfitMemory (pick (not b) (heal m C2) (heal m C6) .mem) (pick (not b) (heal m C2) (heal m C6) .rec) ≡ false
+    → unfitMemory (pick (not b) (recoverTo m C2) (recoverTo m C6) .mem) (pick (not b) (recoverTo m C2) (recoverTo m C6) .rec) ≡ false
 after-c1 m true e f = moved C6 f refl
 after-c1 m false e f = moved C2 f e
 
@@ -204,7 +204,7 @@ keeps m C6 h = let f = memory-fits m C6 h in changed (m .marks) 0 Idle f (f .mar
 
 -- ---- the lines up to an allowance
 
-c1-number : (m : Memory) (b : Bool) → pick b (heal m C2) (heal m C6) .reply ≡ says (pick (notIdle (pick b (heal m C2) (heal m C6) .rec)) 0 6) 0
+c1-number : (m : Memory) (b : Bool) → pick b (recoverTo m C2) (recoverTo m C6) .reply ≡ says (pick (notIdle (pick b (recoverTo m C2) (recoverTo m C6) .rec)) 0 6) 0
 c1-number m true = refl
 c1-number m false = refl
 
@@ -243,7 +243,7 @@ up-to-more b a m (C4 w v) h = refl
 up-to-more b a m (C5 w v) h = refl
 up-to-more b a m C6 h = refl
 
-pub up-to-idle : (b : ℕ) (a : Reply) (m : Memory) (r : Recovery) → notIdle r ≡ false → upTo b a m r ≡ healed a m r
+pub up-to-idle : (b : ℕ) (a : Reply) (m : Memory) (r : Recovery) → notIdle r ≡ false → upTo b a m r ≡ recoveryDid a m r
 unfolding upTo
 up-to-idle zero a m r h = refl
 up-to-idle (suc b) a m Idle h = refl

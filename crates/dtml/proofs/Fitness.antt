@@ -21,7 +21,7 @@ use Rattle.dtml.specs.First.{Check, first}
 use Rattle.dtml.specs.Checks.{checks, unfit, unfitTx, unfitTxs, unfitMemory, unfitRecovery, phasePast, notIdle}
 use Rattle.dtml.specs.Calls.{act, call, refused}
 use Rattle.dtml.specs.History.{Tale, taleAt, last, World, runs, tell, dawn}
-use Rattle.dtml.proofs.Invariant.{Free, Owner, Ender, Heals, Mode, quiet, writing, sealed, healing}
+use Rattle.dtml.proofs.Invariant.{Free, Owner, Ender, Recovers, Mode, quiet, writing, sealed, recovering}
 use Rattle.dtml.proofs.Words.{same-or-not, true-not-false}
 use Rattle.dtml.proofs.Fit.{fit-beside, fit-tx}
 use Rattle.dtml.proofs.SystemCalls.{still-free}
@@ -104,7 +104,7 @@ words-in n m r ts ks l (sealed o ho i c e end others) t ht = go (same-or-not t o
     go : (t ≡ o) ⊎ (t ≡ o → ⊥) → phasePast n (recordAt ts t .phase) ≡ false
     go (inl q) = rw q (ender-words n (m .glb) l (recordAt ts o .loc) (recordAt ts o .phase) (taleAt ks o) end)
     go (inr f) = free-words n (m .glb) l (recordAt ts t .loc) (recordAt ts t .phase) (taleAt ks t) (others t ht f)
-words-in n m r ts ks l (healing i h all) t ht =
+words-in n m r ts ks l (recovering i h all) t ht =
     free-words n 0 l (recordAt ts t .loc) (recordAt ts t .phase) (taleAt ks t)
     (still-free n 0 l (recordAt ts t .loc) (recordAt ts t .phase) (taleAt ks t) (all t ht))
 
@@ -117,20 +117,20 @@ idle-fits n k (C4 w v) h = absurd (true-not-false refl h)
 idle-fits n k (C5 w v) h = absurd (true-not-false refl h)
 idle-fits n k C6 h = refl
 
-heals-fits : (n : ℕ) (m : Memory) (l : List ℕ) (r : Recovery) → Heals n m l r → unfitRecovery n (m .marks) r ≡ false
-heals-fits n m l Idle h = refl
-heals-fits n m l C1 h = refl
-heals-fits n m l C2 h = ne-eqb (countOf (m .marks)) 0 h
-heals-fits n m l (C3 w v) h = lt-leb n w (h .0)
-heals-fits n m l (C4 w v) h = lt-leb n w (h .0 .0)
-heals-fits n m l (C5 w v) h = lt-leb n w (h .0 .0)
-heals-fits n m l C6 h = refl
+recovers-fits : (n : ℕ) (m : Memory) (l : List ℕ) (r : Recovery) → Recovers n m l r → unfitRecovery n (m .marks) r ≡ false
+recovers-fits n m l Idle h = refl
+recovers-fits n m l C1 h = refl
+recovers-fits n m l C2 h = ne-eqb (countOf (m .marks)) 0 h
+recovers-fits n m l (C3 w v) h = lt-leb n w (h .0)
+recovers-fits n m l (C4 w v) h = lt-leb n w (h .0 .0)
+recovers-fits n m l (C5 w v) h = lt-leb n w (h .0 .0)
+recovers-fits n m l C6 h = refl
 
 recovery-in : (n : ℕ) (m : Memory) (r : Recovery) (ts : List Tx) (ks : List Tale) (l : List ℕ) → Mode n m r ts ks l → unfitRecovery n (m .marks) r ≡ false
 recovery-in n m r ts ks l (quiet i c e all) = idle-fits n (m .marks) r i
 recovery-in n m r ts ks l (writing o ho i e own others) = idle-fits n (m .marks) r i
 recovery-in n m r ts ks l (sealed o ho i c e end others) = idle-fits n (m .marks) r i
-recovery-in n m r ts ks l (healing i h all) = heals-fits n m l r h
+recovery-in n m r ts ks l (recovering i h all) = recovers-fits n m l r h
 
 -- ---- so the store is fit
 

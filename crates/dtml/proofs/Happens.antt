@@ -12,7 +12,7 @@ use Rattle.dtml.specs.declared.Tx.{Tx}
 use Rattle.dtml.specs.declared.Recovery.the-variants.{Idle, C1, C2, C3, C4, C5, C6}
 use Rattle.dtml.specs.Table.{Reply, says}
 use Rattle.dtml.specs.Store.{Memory, Store, size}
-use Rattle.dtml.specs.Asked.{Ask, begin, read, write, commit, step, Sys, flush, crash, recover, recoverUpTo, sys, Healed, Outcome}
+use Rattle.dtml.specs.Asked.{Ask, begin, read, write, commit, step, Sys, flush, crash, recover, recoverUpTo, sys, RecoveryDid, Outcome}
 use Rattle.dtml.specs.Lines.{anyMark, recoveryLine}
 use Rattle.dtml.specs.First.{Check, _⇒_, first}
 use Rattle.dtml.specs.Checks.{unfit, unfitMemory, unfitOne, notIdle, askChecks, sysChecks}
@@ -39,7 +39,7 @@ Line a = (eqb (a .number) 4 ≡ false) × (leb 9 (a .number) ≡ false)
 line-number : (m : Memory) (r : Recovery) → Line (recoveryLine m r .reply)
 unfolding recoveryLine
 line-number m Idle = (refl, refl)
-line-number m C1 = pick-case (λ (h : Healed). Line (h .reply)) (anyMark (m .marks)) (λ e. (refl, refl)) (λ e. (refl, refl))
+line-number m C1 = pick-case (λ (h : RecoveryDid). Line (h .reply)) (anyMark (m .marks)) (λ e. (refl, refl)) (λ e. (refl, refl))
 line-number m C2 = (refl, refl)
 line-number m (C3 w v) = (refl, refl)
 line-number m (C4 w v) = (refl, refl)

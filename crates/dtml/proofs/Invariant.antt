@@ -1,5 +1,5 @@
 -- What holds at every moment of every schedule from a fresh store, as predicates over the store's parts, so that what a line does not touch carries over.
--- The store is quiet, one transaction writes, one is sealed (past its E2, before its E3), or recovery heals it.
+-- The store is quiet, one transaction writes, one is sealed (past its E2, before its E3), or recovery is under way.
 use Prim.Native.Nat.{ℕ, _+_, _≤_, _<_}
 use mathlib.Core.Path.{_≡_}
 use mathlib.Core.Bool.{true, false}
@@ -117,14 +117,14 @@ Ender g l loc E3 k = (loc ≡ g) × Over k
 abbrev pub Chosen : ℕ → Memory → List ℕ → ℕ → ℕ → Type 0
 Chosen n m l w v = (w < n) × (isMarked (m .marks) w ≡ true) × (v ≡ getD l w 0)
 
-abbrev pub Heals : ℕ → Memory → List ℕ → Recovery → Type 0
-Heals n m l Idle = ⊥
-Heals n m l C1 = Unit {0}
-Heals n m l C2 = countOf (m .marks) ≡ 0 → ⊥
-Heals n m l (C3 w v) = Chosen n m l w v
-Heals n m l (C4 w v) = Chosen n m l w v × (getD (m .vol) w 0 ≡ v)
-Heals n m l (C5 w v) = Chosen n m l w v × (getD (m .vol) w 0 ≡ v) × (getD (m .pers) w 0 ≡ v)
-Heals n m l C6 = countOf (m .marks) ≡ 0
+abbrev pub Recovers : ℕ → Memory → List ℕ → Recovery → Type 0
+Recovers n m l Idle = ⊥
+Recovers n m l C1 = Unit {0}
+Recovers n m l C2 = countOf (m .marks) ≡ 0 → ⊥
+Recovers n m l (C3 w v) = Chosen n m l w v
+Recovers n m l (C4 w v) = Chosen n m l w v × (getD (m .vol) w 0 ≡ v)
+Recovers n m l (C5 w v) = Chosen n m l w v × (getD (m .vol) w 0 ≡ v) × (getD (m .pers) w 0 ≡ v)
+Recovers n m l C6 = countOf (m .marks) ≡ 0
 
 abbrev pub Still : Phase → Tale → Type 0
 Still p k = (isLive (stage p) ≡ false) × Over k
@@ -146,7 +146,7 @@ pub data Mode (n : ℕ) (m : Memory) (r : Recovery) (ts : List Tx) (ks : List Ta
   sealed : (o : ℕ) → o < 64 → notIdle r ≡ false → countOf (m .marks) ≡ 0 → even (m .glb) ≡ false
       → Ender (m .glb) l (recordAt ts o .loc) (recordAt ts o .phase) (taleAt ks o)
       → EachBut o ts ks (Free n (m .glb) l) → Mode n m r ts ks l
-  healing : notIdle r ≡ true → Heals n m l r → Each ts ks (λ _. Still) → Mode n m r ts ks l
+  recovering : notIdle r ≡ true → Recovers n m l r → Each ts ks (λ _. Still) → Mode n m r ts ks l
 
 -- the rows' lengths
 pub record Shape (n : ℕ) (m : Memory) (ts : List Tx) (ks : List Tale) (l : List ℕ) : Type 0 where

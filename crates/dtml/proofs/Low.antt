@@ -18,7 +18,7 @@ use Rattle.dtml.specs.declared.Recovery.{Recovery}
 use Rattle.dtml.specs.declared.Recovery.the-variants.{Idle, C1, C2, C3, C4, C5, C6}
 use Rattle.dtml.specs.Table.{Reply, says}
 use Rattle.dtml.specs.Store.{Memory, recordAt, tx, fresh}
-use Rattle.dtml.specs.Asked.{begin, read, write, commit, step, flush, crash, recover, recoverUpTo, Call, on, sys, Did, Healed}
+use Rattle.dtml.specs.Asked.{begin, read, write, commit, step, flush, crash, recover, recoverUpTo, Call, on, sys, Did, RecoveryDid}
 use Rattle.dtml.specs.Lines.{lineAt, recoveryLine, even, stage, isLive, anyMark, crashTx, crashTxs}
 use Rattle.dtml.specs.Checks.{checks}
 use Rattle.dtml.specs.Calls.{ask, upTo, system, act}
@@ -136,7 +136,7 @@ low-set m m′ ts t x long ht less here low = record {
 low-recovery : (m : Memory) (r : Recovery) → recoveryLine m r .mem .glb ≤ m .glb
 unfolding recoveryLine
 low-recovery m Idle = le-refl _
-low-recovery m C1 = pick-case (λ (h : Healed). h .mem .glb ≤ m .glb) (anyMark (m .marks)) (λ _. le-refl _) (λ _. le-refl _)
+low-recovery m C1 = pick-case (λ (h : RecoveryDid). h .mem .glb ≤ m .glb) (anyMark (m .marks)) (λ _. le-refl _) (λ _. le-refl _)
 low-recovery m C2 = le-refl _
 low-recovery m (C3 w v) = le-refl _
 low-recovery m (C4 w v) = le-refl _

@@ -16,7 +16,7 @@ use Rattle.dtml.specs.Store.{Memory, recordAt, tx}
 use Rattle.dtml.specs.Lines.{even}
 use Rattle.dtml.specs.Checks.{notIdle}
 use Rattle.dtml.specs.History.{Tale, taleAt, untold}
-use Rattle.dtml.proofs.Invariant.{Free, Owner, Lock, Ender, Each, EachBut, Mode, quiet, writing, sealed, healing, Shape}
+use Rattle.dtml.proofs.Invariant.{Free, Owner, Lock, Ender, Each, EachBut, Mode, quiet, writing, sealed, recovering, Shape}
 use Rattle.dtml.proofs.Words.{same-or-not, true-not-false}
 
 -- ---- one record and its tale are set
@@ -104,4 +104,4 @@ module _ (n : ℕ) (m : Memory) (r : Recovery) (ts : List Tx) (ks : List Tale) (
                 (set-each-but ts ks t (tx loc p) k (Free n (m .glb) l) o in-ts in-ks h others);
             nobody = λ q. absurd (true-not-false q e);
           })
-  role (healing a h all) b = absurd (true-not-false a b)
+  role (recovering a h all) b = absurd (true-not-false a b)

@@ -19,12 +19,12 @@ use Rattle.dtml.specs.declared.Recovery.{Recovery}
 use Rattle.dtml.specs.declared.Recovery.the-variants.{Idle, C1, C2, C3, C4, C5, C6}
 use Rattle.dtml.specs.Table.{Reply}
 use Rattle.dtml.specs.Store.{Memory, recordAt, tx}
-use Rattle.dtml.specs.Asked.{Healed}
+use Rattle.dtml.specs.Asked.{RecoveryDid}
 use Rattle.dtml.specs.Lines.{recoveryLine, stage, isLive, withGlb, withMarks, storeWord, flushWord, crashMemory, crashPhase, crashTx, crashTxs, anyMark}
 use Rattle.dtml.specs.Checks.{notIdle}
 use Rattle.dtml.specs.Calls.{upTo}
 use Rattle.dtml.specs.History.{Tale, taleAt, closes, untold}
-use Rattle.dtml.proofs.Invariant.{Free, Owner, Clean, Dirty, Chosen, Heals, Still, Each, Mode, quiet, writing, sealed, healing, Shape, Inv}
+use Rattle.dtml.proofs.Invariant.{Free, Owner, Clean, Dirty, Chosen, Recovers, Still, Each, Mode, quiet, writing, sealed, recovering, Shape, Inv}
 use Rattle.dtml.specs.Demands.{overlaid}
 use Rattle.dtml.proofs.Words.{same-or-not, true-not-false, pick-case}
 use Rattle.dtml.proofs.Fit.{up-to-keeps}
@@ -69,22 +69,22 @@ module _ (n : ℕ) (m : Memory) (l : List ℕ) (w : ℕ) (long : length (m .pers
   flush-owner loc E2 k h = (h .0, flush-clean k (h .1))
   flush-owner loc E3 k h = h
 
-  flush-heals : (r : Recovery) → Heals n m l r → Heals n (flushWord m w) l r
-  flush-heals Idle h = h
-  flush-heals C1 h = h
-  flush-heals C2 h = h
-  flush-heals (C3 x v) h = h
-  flush-heals (C4 x v) h = h
-  flush-heals (C5 x v) h =
+  flush-recovers : (r : Recovery) → Recovers n m l r → Recovers n (flushWord m w) l r
+  flush-recovers Idle h = h
+  flush-recovers C1 h = h
+  flush-recovers C2 h = h
+  flush-recovers (C3 x v) h = h
+  flush-recovers (C4 x v) h = h
+  flush-recovers (C5 x v) h =
       (h .0, h .1, flush-shared (m .vol) (m .pers) w x (rw long (h .0 .0)) (h .2 ∙ sym (h .1)) ∙ h .1)
-  flush-heals C6 h = h
+  flush-recovers C6 h = h
 
   flush-mode : (r : Recovery) (ts : List Tx) (ks : List Tale) → Mode n m r ts ks l → Mode n (flushWord m w) r ts ks l
   flush-mode r ts ks (quiet i c e all) = quiet i c e all
   flush-mode r ts ks (writing o ho i e own others) =
       writing o ho i e (own .0, flush-owner (recordAt ts o .loc) (recordAt ts o .phase) (taleAt ks o) (own .1)) others
   flush-mode r ts ks (sealed o ho i c e end others) = sealed o ho i c e end others
-  flush-mode r ts ks (healing i h all) = healing i (flush-heals r h) all
+  flush-mode r ts ks (recovering i h all) = recovering i (flush-recovers r h) all
 
 -- ---- after a crash or recovery the records have no line
 
@@ -156,29 +156,29 @@ module _ (n : ℕ) (ts : List Tx) (ks : List Tale) (l : List ℕ) where
     calm = λ x hx u. rw u at (inv .durable x hx);
     marks-in = inv .marks-in;
     mode =
-        healing refl tt (λ t ht. rw (List·getD-map crashTx ts t (tx 0 Fresh), List·getD-map closes ks t untold)
+        recovering refl tt (λ t ht. rw (List·getD-map crashTx ts t (tx 0 Fresh), List·getD-map closes ks t untold)
         (still-crashed (recordAt ts t .phase) (taleAt ks t)));
   }
 
   -- a recovery line, where recovery is not idle
   module _ (m : Memory) where
-    pub heals : (r : Recovery) → notIdle r ≡ true → Inv n m r ts ks l → Heals n m l r × Each ts ks (λ _. Still)
-    heals r a inv = go (inv .mode)
+    pub in-recovery : (r : Recovery) → notIdle r ≡ true → Inv n m r ts ks l → Recovers n m l r × Each ts ks (λ _. Still)
+    in-recovery r a inv = go (inv .mode)
       where
-        go : Mode n m r ts ks l → Heals n m l r × Each ts ks (λ _. Still)
+        go : Mode n m r ts ks l → Recovers n m l r × Each ts ks (λ _. Still)
         go (quiet i c e all) = absurd (true-not-false a i)
         go (writing o ho i e own others) = absurd (true-not-false a i)
         go (sealed o ho i c e end others) = absurd (true-not-false a i)
-        go (healing i h all) = (h, all)
+        go (recovering i h all) = (h, all)
 
     -- only recovery moves
-    healing-on : (r r′ : Recovery) → notIdle r ≡ true → notIdle r′ ≡ true → Inv n m r ts ks l → Heals n m l r′ → Inv n m r′ ts ks l
-    healing-on r r′ a b inv h = record {
+    recovering-on : (r r′ : Recovery) → notIdle r ≡ true → notIdle r′ ≡ true → Inv n m r ts ks l → Recovers n m l r′ → Inv n m r′ ts ks l
+    recovering-on r r′ a b inv h = record {
       shape = inv .shape;
       durable = inv .durable;
       calm = inv .calm;
       marks-in = inv .marks-in;
-      mode = healing b h (heals r a inv .1);
+      mode = recovering b h (in-recovery r a inv .1);
     }
 
     chosen : (r : Recovery) → Inv n m r ts ks l → (countOf (m .marks) ≡ 0 → ⊥) → Chosen n m l (lowestOf (m .marks)) (getD (m .old) (lowestOf (m .marks)) 0)
@@ -199,11 +199,11 @@ module _ (n : ℕ) (ts : List Tx) (ks : List Tale) (l : List ℕ) where
       durable = λ x hx. overlay x hx (same-or-not x w);
       calm = λ x hx. volatile x hx (same-or-not x w);
       marks-in = λ x hx. past x hx (same-or-not x w);
-      mode = healing refl tt (heals (C5 w v) refl inv .1);
+      mode = recovering refl tt (in-recovery (C5 w v) refl inv .1);
     }
       where
-        held : Heals n m l (C5 w v)
-        held = heals (C5 w v) refl inv .0
+        held : Recovers n m l (C5 w v)
+        held = in-recovery (C5 w v) refl inv .0
 
         overlay : (x : ℕ) → x < n → (x ≡ w) ⊎ (x ≡ w → ⊥) → overlaid (withMarks m (unmarkOf (m .marks) w)) x ≡ getD l x 0
         overlay x hx (inl e) = rw (e, laws .unmark-same (m .marks) w) (held .2 ∙ held .0 .2)
@@ -224,11 +224,11 @@ module _ (n : ℕ) (ts : List Tx) (ks : List Tale) (l : List ℕ) where
       durable = inv .durable;
       calm = λ x hx u. getD-set-other (m .vol) w x v 0 (λ e. true-not-false (held .1) (rw e at u)) ∙ inv .calm x hx u;
       marks-in = inv .marks-in;
-      mode = healing refl (held, getD-set-same (m .vol) w v 0 (rw (inv .shape .vol-long) (held .0))) (heals (C3 w v) refl inv .1);
+      mode = recovering refl (held, getD-set-same (m .vol) w v 0 (rw (inv .shape .vol-long) (held .0))) (in-recovery (C3 w v) refl inv .1);
     }
       where
         held : Chosen n m l w v
-        held = heals (C3 w v) refl inv .0
+        held = in-recovery (C3 w v) refl inv .0
 
     rewritten : (w v : ℕ) → Inv n m (C4 w v) ts ks l → Inv n (flushWord m w) (C5 w v) ts ks l
     rewritten w v inv = record {
@@ -237,40 +237,40 @@ module _ (n : ℕ) (ts : List Tx) (ks : List Tale) (l : List ℕ) where
       calm = next .calm;
       marks-in = next .marks-in;
       mode =
-          healing refl
+          recovering refl
           (held .0, held .1, flush-copies (m .vol) (m .pers) w (rw (inv .shape .pers-long) (held .0 .0)) ∙ held .1)
-          (heals (C4 w v) refl inv .1);
+          (in-recovery (C4 w v) refl inv .1);
     }
       where
-        held : Heals n m l (C4 w v)
-        held = heals (C4 w v) refl inv .0
+        held : Recovers n m l (C4 w v)
+        held = in-recovery (C4 w v) refl inv .0
 
         next : Inv n (flushWord m w) (C4 w v) ts ks l
         next = flush-inv m (C4 w v) w inv
 
-    healed-all : Inv n m C6 ts ks l → Inv n (withGlb m 0) Idle ts ks l
-    healed-all inv = record {
+    recovered-all : Inv n m C6 ts ks l → Inv n (withGlb m 0) Idle ts ks l
+    recovered-all inv = record {
       shape = reshaped m (withGlb m 0) (inv .shape) (inv .shape .vol-long) (inv .shape .pers-long) (inv .shape .marks-long) refl;
       durable = inv .durable;
       calm = inv .calm;
       marks-in = inv .marks-in;
       mode =
-          quiet refl (heals C6 refl inv .0) refl
-          (λ t ht. still-free n 0 l (recordAt ts t .loc) (recordAt ts t .phase) (taleAt ks t) (heals C6 refl inv .1 t ht));
+          quiet refl (in-recovery C6 refl inv .0) refl
+          (λ t ht. still-free n 0 l (recordAt ts t .loc) (recordAt ts t .phase) (taleAt ks t) (in-recovery C6 refl inv .1 t ht));
     }
 
     pub recovery-inv : (r : Recovery) → Inv n m r ts ks l → Inv n (recoveryLine m r .mem) (recoveryLine m r .rec) ts ks l
     unfolding recoveryLine
     recovery-inv Idle inv = inv
     recovery-inv C1 inv =
-        pick-case (λ (h : Healed). Inv n (h .mem) (h .rec) ts ks l) (anyMark (m .marks))
-        (λ e. healing-on C1 C2 refl refl inv (eqb-false (countOf (m .marks)) 0 (not-true _ e)))
-        (λ e. healing-on C1 C6 refl refl inv (eqb-true (countOf (m .marks)) 0 (not-false _ e)))
-    recovery-inv C2 inv = healing-on C2 (C3 _ _) refl refl inv (chosen C2 inv (heals C2 refl inv .0))
+        pick-case (λ (h : RecoveryDid). Inv n (h .mem) (h .rec) ts ks l) (anyMark (m .marks))
+        (λ e. recovering-on C1 C2 refl refl inv (eqb-false (countOf (m .marks)) 0 (not-true _ e)))
+        (λ e. recovering-on C1 C6 refl refl inv (eqb-true (countOf (m .marks)) 0 (not-false _ e)))
+    recovery-inv C2 inv = recovering-on C2 (C3 _ _) refl refl inv (chosen C2 inv (in-recovery C2 refl inv .0))
     recovery-inv (C3 w v) inv = restored w v inv
     recovery-inv (C4 w v) inv = rewritten w v inv
     recovery-inv (C5 w v) inv = unmarked w v inv
-    recovery-inv C6 inv = healed-all inv
+    recovery-inv C6 inv = recovered-all inv
 
   pub upTo-inv : (b : ℕ) (a : Reply) (m : Memory) (r : Recovery) → Inv n m r ts ks l → Inv n (upTo b a m r .mem) (upTo b a m r .rec) ts ks l
   upTo-inv b a m r inv = up-to-keeps (λ _ m r. Inv n m r ts ks l) (λ _ m r h. recovery-inv m r h) b a m r inv

@@ -17,7 +17,7 @@ use Rattle.dtml.specs.declared.Recovery.{Recovery}
 use Rattle.dtml.specs.declared.Recovery.the-variants.{Idle, C1, C2, C3, C4, C5, C6}
 use Rattle.dtml.specs.Table.{Reply, says}
 use Rattle.dtml.specs.Store.{Memory, Store, recordAt, tx, size, fresh}
-use Rattle.dtml.specs.Asked.{begin, read, write, commit, step, flush, crash, recover, recoverUpTo, Call, on, sys, standsAt, Did, Healed, Outcome}
+use Rattle.dtml.specs.Asked.{begin, read, write, commit, step, flush, crash, recover, recoverUpTo, Call, on, sys, standsAt, Did, RecoveryDid, Outcome}
 use Rattle.dtml.specs.Lines.{lineAt, recoveryLine, even, anyMark}
 use Rattle.dtml.specs.First.{Check, first}
 use Rattle.dtml.specs.Checks.{checks, notIdle}
@@ -117,7 +117,7 @@ six-nine k h = let below = leb-false 6 k h in lt-leb 9 k (omega arith)
 recovery-small : (m : Memory) (r : Recovery) → Small (recoveryLine m r .reply)
 unfolding recoveryLine
 recovery-small m Idle = refl
-recovery-small m C1 = pick-case (λ (h : Healed). Small (h .reply)) (anyMark (m .marks)) (λ _. refl) (λ _. refl)
+recovery-small m C1 = pick-case (λ (h : RecoveryDid). Small (h .reply)) (anyMark (m .marks)) (λ _. refl) (λ _. refl)
 recovery-small m C2 = refl
 recovery-small m (C3 w v) = refl
 recovery-small m (C4 w v) = refl

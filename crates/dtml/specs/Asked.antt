@@ -27,13 +27,13 @@ abbrev pub did : Reply → Memory → Tx → Did
 did r m t = record { reply = r; mem = m; tx = t }
 
 -- what a line of recovery leaves
-pub record Healed : Type 0 where
+pub record RecoveryDid : Type 0 where
   pub reply : Reply
   pub mem : Memory
   pub rec : Recovery
 
-abbrev pub healed : Reply → Memory → Recovery → Healed
-healed a m r = record { reply = a; mem = m; rec = r }
+abbrev pub recoveryDid : Reply → Memory → Recovery → RecoveryDid
+recoveryDid a m r = record { reply = a; mem = m; rec = r }
 
 -- what a call leaves
 pub record Outcome : Type 0 where

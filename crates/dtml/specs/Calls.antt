@@ -10,8 +10,8 @@ use Rattle.dtml.specs.declared.Recovery.{Recovery}
 use Rattle.dtml.specs.declared.Recovery.the-variants.{Idle, C1, C2, C3, C4, C5, C6}
 use Rattle.dtml.specs.Table.{Reply, says}
 use Rattle.dtml.specs.Store.{Memory, Store, store, size, recordAt, fresh}
-use Rattle.dtml.specs.Asked.{Ask, begin, read, write, commit, step, Sys, flush, crash, recover, recoverUpTo, Call, on, sys, Did, Healed, healed, Outcome, outcome}
-use Rattle.dtml.specs.Lines.{to, line, heal, flushWord, recoveryLine, crashMemory, crashTxs}
+use Rattle.dtml.specs.Asked.{Ask, begin, read, write, commit, step, Sys, flush, crash, recover, recoverUpTo, Call, on, sys, Did, RecoveryDid, recoveryDid, Outcome, outcome}
+use Rattle.dtml.specs.Lines.{to, line, recoverTo, flushWord, recoveryLine, crashMemory, crashTxs}
 use Rattle.dtml.specs.First.{anyOf, _⇒_, first}
 use Rattle.dtml.specs.Checks.{unfitRows, checks}
 
@@ -26,13 +26,13 @@ ask m t commit = to m (t .loc) E1
 ask m t step = line m t
 
 -- one line more: its number stands, and the lines carried out rise by 1
-abbrev pub oneMore : (Reply → Memory → Recovery → Healed) → Reply → Healed → Healed
+abbrev pub oneMore : (Reply → Memory → Recovery → RecoveryDid) → Reply → RecoveryDid → RecoveryDid
 oneMore rest a h = rest (says (h .reply .number) (a .value + 1)) (h .mem) (h .rec)
 
 -- b recovery lines, or all that are left up to and with C6 if those are fewer, after what is answered so far: the last line's number, and the lines carried out
-unfoldable pub upTo : ℕ → Reply → Memory → Recovery → Healed
-upTo zero a m r = healed a m r
-upTo (suc b) a m Idle = healed a m Idle
+unfoldable pub upTo : ℕ → Reply → Memory → Recovery → RecoveryDid
+upTo zero a m r = recoveryDid a m r
+upTo (suc b) a m Idle = recoveryDid a m Idle
 upTo (suc b) a m C1 = oneMore (upTo b) a (recoveryLine m C1)
 upTo (suc b) a m C2 = oneMore (upTo b) a (recoveryLine m C2)
 upTo (suc b) a m (C3 w v) = oneMore (upTo b) a (recoveryLine m (C3 w v))
@@ -40,9 +40,9 @@ upTo (suc b) a m (C4 w v) = oneMore (upTo b) a (recoveryLine m (C4 w v))
 upTo (suc b) a m (C5 w v) = oneMore (upTo b) a (recoveryLine m (C5 w v))
 upTo (suc b) a m C6 = oneMore (upTo b) a (recoveryLine m C6)
 
-unfoldable pub system : Memory → Recovery → Sys → Healed
-system m r (flush w) = heal (flushWord m w) r
-system m r crash = heal (crashMemory m) C1
+unfoldable pub system : Memory → Recovery → Sys → RecoveryDid
+system m r (flush w) = recoverTo (flushWord m w) r
+system m r crash = recoverTo (crashMemory m) C1
 system m r recover = recoveryLine m r
 system m r (recoverUpTo b) = upTo b (says 0 0) m r
 
@@ -62,7 +62,7 @@ refused s n = outcome (says n 0) s
 abbrev pub placed : Store → ℕ → Did → Outcome
 placed s t d = outcome (d .reply) (store (d .mem) (s .rec) (set (s .txs) t (d .tx)))
 
-abbrev pub settled : List Tx → Healed → Outcome
+abbrev pub settled : List Tx → RecoveryDid → Outcome
 settled ts h = outcome (h .reply) (store (h .mem) (h .rec) ts)
 
 unfoldable pub act : Store → Call → Outcome

@@ -76,8 +76,8 @@ abbrev pub BothSides : Memory → List ℕ → Type 0
 BothSides m l = (m .vol ≡ l) × (m .pers ≡ l)
 
 -- When recovery answers 6, both sides hold exactly the last committed memory,
-abbrev pub WholeWhenHealed : Type 0
-WholeWhenHealed = (n : ℕ) (cs : List Call) (c : Call) → Size n → number (after n cs) c ≡ 6
+abbrev pub WholeWhenRecovered : Type 0
+WholeWhenRecovered = (n : ℕ) (cs : List Call) (c : Call) → Size n → number (after n cs) c ≡ 6
     → BothSides (tell (after n cs) c .store .mem) (last (after n cs .past))
 
 -- and at every moment at which recovery is idle and no live transaction has entered a word in the log.

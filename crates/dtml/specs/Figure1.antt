@@ -11,7 +11,7 @@ use Rattle.dtml.specs.declared.Recovery.{Recovery}
 use Rattle.dtml.specs.declared.Recovery.the-variants.{Idle, C1, C2, C3, C4, C5, C6}
 use Rattle.dtml.specs.Table.{says}
 use Rattle.dtml.specs.Store.{Memory, memory, tx}
-use Rattle.dtml.specs.Asked.{Did, did, Healed, healed}
+use Rattle.dtml.specs.Asked.{Did, did, RecoveryDid, recoveryDid}
 
 abbrev Odd : ℕ → Type 0
 Odd n = n % 2 ≡ 1
@@ -61,20 +61,20 @@ pub data Line (m : Memory) (loc : ℕ) (p : Phase) (d : Did) : Type 0 where
   e3 : p ≡ E3 → d ≡ did (says 4 0) (memory (m .vol) (m .pers) (m .old) (m .marks) (loc + 1)) (tx loc Committed) → Line m loc p d
 
 -- In memory m, recovery that stands at line r does h.
-pub data RecoveryLine (m : Memory) (r : Recovery) (h : Healed) : Type 0 where
+pub data RecoveryLine (m : Memory) (r : Recovery) (h : RecoveryDid) : Type 0 where
   -- C1 while ¬ log.isEmpty()
-  c1-some : (w : ℕ) → r ≡ C1 → isMarked (m .marks) w ≡ true → h ≡ healed (says 0 0) m C2 → RecoveryLine m r h
-  c1-none : r ≡ C1 → ((w : ℕ) → isMarked (m .marks) w ≡ false) → h ≡ healed (says 0 0) m C6 → RecoveryLine m r h
+  c1-some : (w : ℕ) → r ≡ C1 → isMarked (m .marks) w ≡ true → h ≡ recoveryDid (says 0 0) m C2 → RecoveryLine m r h
+  c1-none : r ≡ C1 → ((w : ℕ) → isMarked (m .marks) w ≡ false) → h ≡ recoveryDid (says 0 0) m C6 → RecoveryLine m r h
   -- C2 SOME (addr, val). (addr, val) ∈ log: the lowest marked word
   c2 : (w : ℕ) → r ≡ C2 → isMarked (m .marks) w ≡ true → ((x : ℕ) → x < w → isMarked (m .marks) x ≡ false)
-      → h ≡ healed (says 0 0) m (C3 w (getD (m .old) w 0)) → RecoveryLine m r h
+      → h ≡ recoveryDid (says 0 0) m (C3 w (getD (m .old) w 0)) → RecoveryLine m r h
   -- C3 *addr := val
-  c3 : (w v : ℕ) → r ≡ C3 w v → h ≡ healed (says 0 0) (memory (set (m .vol) w v) (m .pers) (m .old) (m .marks) (m .glb)) (C4 w v) → RecoveryLine m r h
+  c3 : (w v : ℕ) → r ≡ C3 w v → h ≡ recoveryDid (says 0 0) (memory (set (m .vol) w v) (m .pers) (m .old) (m .marks) (m .glb)) (C4 w v) → RecoveryLine m r h
   -- C4 FLUSH(addr)
   c4 : (w v : ℕ) → r ≡ C4 w v
-      → h ≡ healed (says 0 0) (memory (m .vol) (set (m .pers) w (getD (m .vol) w 0)) (m .old) (m .marks) (m .glb)) (C5 w v) → RecoveryLine m r h
+      → h ≡ recoveryDid (says 0 0) (memory (m .vol) (set (m .pers) w (getD (m .vol) w 0)) (m .old) (m .marks) (m .glb)) (C5 w v) → RecoveryLine m r h
   -- C5 log.pdelete((addr, val))
   c5 : (w v : ℕ) → r ≡ C5 w v
-      → h ≡ healed (says 0 0) (memory (m .vol) (m .pers) (m .old) (unmarkOf (m .marks) w) (m .glb)) C1 → RecoveryLine m r h
+      → h ≡ recoveryDid (says 0 0) (memory (m .vol) (m .pers) (m .old) (unmarkOf (m .marks) w) (m .glb)) C1 → RecoveryLine m r h
   -- C6 glb := 0
-  c6 : r ≡ C6 → h ≡ healed (says 6 0) (memory (m .vol) (m .pers) (m .old) (m .marks) 0) Idle → RecoveryLine m r h
+  c6 : r ≡ C6 → h ≡ recoveryDid (says 6 0) (memory (m .vol) (m .pers) (m .old) (m .marks) 0) Idle → RecoveryLine m r h

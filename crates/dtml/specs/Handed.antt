@@ -10,7 +10,7 @@ use Rattle.dtml.specs.declared.Recovery.{Recovery}
 use Rattle.dtml.specs.declared.Recovery.the-variants.{C1}
 use Rattle.dtml.specs.Table.{Reply, says}
 use Rattle.dtml.specs.Store.{Memory, Store, store, size}
-use Rattle.dtml.specs.Asked.{Ask, Sys, flush, crash, recover, recoverUpTo, Call, on, sys, Did, Healed, Outcome, outcome}
+use Rattle.dtml.specs.Asked.{Ask, Sys, flush, crash, recover, recoverUpTo, Call, on, sys, Did, RecoveryDid, Outcome, outcome}
 use Rattle.dtml.specs.Lines.{flushWord, recoveryLine, crashMemory, crashTxs}
 use Rattle.dtml.specs.First.{_⇒_, first}
 use Rattle.dtml.specs.Checks.{unfitOne, unfitMemory, askChecks, sysChecks}
@@ -28,7 +28,7 @@ pub data Happened : Type 0 where
   nothing : Reply → Memory → Happened
   a-flush : Memory → Happened
   a-crash : Memory → Happened
-  some-lines : ℕ → Healed → Happened
+  some-lines : ℕ → RecoveryDid → Happened
 
 -- ---- the calls
 

@@ -14,7 +14,7 @@ use Rattle.dtml.specs.declared.Recovery.{Recovery}
 use Rattle.dtml.specs.declared.Recovery.the-variants.{Idle, C1, C2, C3, C4, C5, C6}
 use Rattle.dtml.specs.Table.{says}
 use Rattle.dtml.specs.Store.{Memory, memory, tx}
-use Rattle.dtml.specs.Asked.{Did, did, Healed, healed}
+use Rattle.dtml.specs.Asked.{Did, did, RecoveryDid, recoveryDid}
 
 -- ---- one act on the memory
 
@@ -102,8 +102,8 @@ line m t = lineAt m (t .loc) (t .phase)
 
 -- ---- the lines of recovery
 
-abbrev pub heal : Memory → Recovery → Healed
-heal m r = healed (says 0 0) m r
+abbrev pub recoverTo : Memory → Recovery → RecoveryDid
+recoverTo m r = recoveryDid (says 0 0) m r
 
 abbrev pub anyMark : List ℕ → Bool
 anyMark k = not (eqb (countOf k) 0)
@@ -113,14 +113,14 @@ abbrev pub choose : Memory → Recovery
 choose m = C3 (lowestOf (m .marks)) (getD (m .old) (lowestOf (m .marks)) 0)
 
 -- The line at which recovery stands. (Idle has none.)
-unfoldable pub recoveryLine : Memory → Recovery → Healed
-recoveryLine m C1 = pick (anyMark (m .marks)) (heal m C2) (heal m C6)
-recoveryLine m C2 = heal m (choose m)
-recoveryLine m (C3 w v) = heal (storeWord m w v) (C4 w v)
-recoveryLine m (C4 w v) = heal (flushWord m w) (C5 w v)
-recoveryLine m (C5 w v) = heal (withMarks m (unmarkOf (m .marks) w)) C1
-recoveryLine m C6 = healed (says 6 0) (withGlb m 0) Idle
-recoveryLine m Idle = heal m Idle
+unfoldable pub recoveryLine : Memory → Recovery → RecoveryDid
+recoveryLine m C1 = pick (anyMark (m .marks)) (recoverTo m C2) (recoverTo m C6)
+recoveryLine m C2 = recoverTo m (choose m)
+recoveryLine m (C3 w v) = recoverTo (storeWord m w v) (C4 w v)
+recoveryLine m (C4 w v) = recoverTo (flushWord m w) (C5 w v)
+recoveryLine m (C5 w v) = recoverTo (withMarks m (unmarkOf (m .marks) w)) C1
+recoveryLine m C6 = recoveryDid (says 6 0) (withGlb m 0) Idle
+recoveryLine m Idle = recoverTo m Idle
 
 -- ---- a crash
 

@@ -15,7 +15,7 @@ use Rattle.dtml.specs.declared.Recovery.{Recovery}
 use Rattle.dtml.specs.declared.Recovery.the-variants.{Idle, C1, C2, C3, C4, C5}
 use Rattle.dtml.specs.Table.{says}
 use Rattle.dtml.specs.Store.{Memory, memory, Store, store, tx, size, recordAt}
-use Rattle.dtml.specs.Asked.{Ask, begin, read, write, commit, step, flush, crash, recover, recoverUpTo, Call, on, sys, standsAt, Did, Healed, Outcome, outcome}
+use Rattle.dtml.specs.Asked.{Ask, begin, read, write, commit, step, flush, crash, recover, recoverUpTo, Call, on, sys, standsAt, Did, RecoveryDid, Outcome, outcome}
 use Rattle.dtml.specs.Figure1.{Line, RecoveryLine}
 
 -- ---- 9: unfit
@@ -130,13 +130,13 @@ abbrev pub Over : Phase → Type 0
 Over p = (p ≡ Fresh) ⊎ (p ≡ Committed) ⊎ (p ≡ Aborted)
 
 pub data Cut (t u : Tx) : Type 0 where
-  over : Over (t .phase) → u ≡ t → Cut t u
+  stays : Over (t .phase) → u ≡ t → Cut t u
   cut-off : (Over (t .phase) → ⊥) → u ≡ tx (t .loc) Aborted → Cut t u
 
 -- k recovery lines, one after the other, lead from the first memory and recovery to the second
 abbrev pub RecoveryLines : ℕ → Memory → Recovery → Memory → Recovery → Type 0
 RecoveryLines zero m r m′ r′ = (m′ ≡ m) × (r′ ≡ r)
-RecoveryLines (suc k) m r m′ r′ = (h : Healed) × RecoveryLine m r h × RecoveryLines k (h .mem) (h .rec) m′ r′
+RecoveryLines (suc k) m r m′ r′ = (h : RecoveryDid) × RecoveryLine m r h × RecoveryLines k (h .mem) (h .rec) m′ r′
 
 pub data Does (s : Store) (c : Call) (o : Outcome) : Type 0 where
   -- An invocation puts the record at its first line and answers 0.
@@ -152,7 +152,7 @@ pub data Does (s : Store) (c : Call) (o : Outcome) : Type 0 where
   -- Crash: volatile := persistent for every word; glb := 0; recovery at C1; persistent, old and marks stay.
   crashes : c ≡ sys crash → o .reply ≡ says 0 0 → o .store .mem ≡ memory (s .mem .pers) (s .mem .pers) (s .mem .old) (s .mem .marks) 0 → o .store .rec ≡ C1
       → length (o .store .txs) ≡ length (s .txs) → ((t : ℕ) → Cut (recordAt (s .txs) t) (recordAt (o .store .txs) t)) → Does s c o
-  recovers : (h : Healed) → c ≡ sys recover → RecoveryLine (s .mem) (s .rec) h → o ≡ outcome (h .reply) (store (h .mem) (h .rec) (s .txs)) → Does s c o
+  recovers : (h : RecoveryDid) → c ≡ sys recover → RecoveryLine (s .mem) (s .rec) h → o ≡ outcome (h .reply) (store (h .mem) (h .rec) (s .txs)) → Does s c o
   -- With an allowance b: b recovery lines, or all that are left up to and with C6 if those are fewer; 6 if C6, after which recovery is idle, was among them.
   spends : (b : ℕ) (m : Memory) (r : Recovery) → c ≡ sys (recoverUpTo b) → RecoveryLines b (s .mem) (s .rec) m r → (r ≡ Idle → ⊥)
       → o ≡ outcome (says 0 b) (store m r (s .txs)) → Does s c o

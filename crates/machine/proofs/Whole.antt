@@ -32,7 +32,7 @@ use Rattle.lines.specs.declared.turn.Turn.the-variants as Turn
 use Rattle.lines.specs.Turning.{turnedOf}
 use Rattle.system.specs.declared.Event.{Event}
 use Rattle.system.specs.declared.Event.the-variants as Event
-use Rattle.system.specs.Healing.{happenedOf}
+use Rattle.system.specs.Recovering.{happenedOf}
 use Rattle.records.specs.Row.{storedIf}
 use Rattle.machine.specs.declared.Held.{Held}
 use Rattle.machine.specs.declared.work.Worked.{Worked}
@@ -54,7 +54,7 @@ event-left : (e : Event) (v p o k : List ℕ) (g : ℕ) (r : Recovery) (t : Tx)
 event-left (Event.Refused a) v p o k g r t = refl
 event-left Event.Flushed v p o k g r t = refl
 event-left Event.Crashed v p o k g r t = refl
-event-left (Event.Healed a n r′) v p o k g r t = refl
+event-left (Event.RecoveryLines a n r′) v p o k g r t = refl
 
 module _ (v p o : List ℕ) (h : Held) {bad : Bool} (t : Tx) (c : Call) {x : Worked} where
   pub unfit-row : bad ≡ true → x ≡ beside Unfit (h .marks) (h .glb) (h .recovery) t false

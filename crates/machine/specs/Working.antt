@@ -54,7 +54,7 @@ abbrev pub eventWorked : Event → List ℕ → ℕ → Recovery → Tx → Work
 eventWorked (Event.Refused a) k g r t = beside a k g r t false
 eventWorked Event.Flushed k g r t = beside (Taken 0) k g r t false
 eventWorked Event.Crashed k g r t = beside (Taken 0) k g C1 t true
-eventWorked (Event.Healed a n r′) k g r t = beside a k g r′ t false
+eventWorked (Event.RecoveryLines a n r′) k g r t = beside a k g r′ t false
 
 -- ---- making fresh
 

@@ -88,7 +88,7 @@ fn by_event(event: Event, marks: Marks, glb: u32, recovery: Recovery, tx: Tx) ->
         Event::Refused { answer } => left_beside(answer, marks, glb, recovery, tx, false),
         Event::Flushed => left_beside(taken, marks, glb, recovery, tx, false),
         Event::Crashed => left_beside(taken, marks, glb, Recovery::C1, tx, true),
-        Event::Healed {
+        Event::RecoveryLines {
             answer,
             lines: _,
             recovery: next,

@@ -11,16 +11,16 @@ use Rattle.dtml.specs.declared.Answer.the-variants.{Taken, Recovered}
 use Rattle.dtml.specs.declared.Recovery.{Recovery}
 use Rattle.dtml.specs.Table.{says}
 use Rattle.dtml.specs.Store.{Memory}
-use Rattle.dtml.specs.Asked.{Healed}
+use Rattle.dtml.specs.Asked.{RecoveryDid}
 use Rattle.dtml.specs.Lines.{recoveryLine}
 use Rattle.dtml.specs.Checks.{unfitMemory, notIdle}
 use Rattle.dtml.specs.Calls.{upTo}
 use Rattle.dtml.proofs.Fit.{keeps, line-number, up-to-more, up-to-idle}
-use Rattle.system.specs.Healing.{healOf, healedOf}
+use Rattle.system.specs.Recovering.{recoveryTurnOf, recoveryDidOf}
 use Rattle.system.proofs.Tests.{reply-pick}
 
 -- the rest of b lines, n of which brought recovery from r₀ over m₀ to r over m
-abbrev pub rest : ℕ → ℕ → Memory → Recovery → Healed
+abbrev pub rest : ℕ → ℕ → Memory → Recovery → RecoveryDid
 rest b n m r = upTo (b - n) (says (pick (notIdle r) 0 6) n) m r
 
 pub record Going (b n : ℕ) (m₀ m : Memory) (r₀ r : Recovery) : Type 0 where
@@ -35,14 +35,14 @@ going-start b m r f i =
     record { within = omega arith; vol-long = refl; pers-long = refl; fit = f; comes-to = rw (i, sub-zero b) }
 
 -- one line more, which left h
-rest-more : (b n : ℕ) (m : Memory) (r : Recovery) (h : Healed) → h ≡ recoveryLine m r → notIdle r ≡ true
+rest-more : (b n : ℕ) (m : Memory) (r : Recovery) (h : RecoveryDid) → h ≡ recoveryLine m r → notIdle r ≡ true
     → upTo b (says (pick (notIdle (h .rec)) 0 6) (n + 1)) (h .mem) (h .rec) ≡ upTo (suc b) (says (pick (notIdle r) 0 6) n) m r
 rest-more b n m r h e i = rw (e, up-to-more b (says (pick (notIdle r) 0 6) n) m r i, line-number m r i)
 
-line-fit : (m : Memory) (r : Recovery) (h : Healed) → h ≡ recoveryLine m r → unfitMemory m r ≡ false → unfitMemory (h .mem) (h .rec) ≡ false
+line-fit : (m : Memory) (r : Recovery) (h : RecoveryDid) → h ≡ recoveryLine m r → unfitMemory m r ≡ false → unfitMemory (h .mem) (h .rec) ≡ false
 line-fit m r h e f = rw e (keeps m r f)
 
-pub going-more : {b n : ℕ} {m₀ m : Memory} {r₀ r : Recovery} (h : Healed) → Going b n m₀ m r₀ r → n < b → notIdle r ≡ true → h ≡ recoveryLine m r
+pub going-more : {b n : ℕ} {m₀ m : Memory} {r₀ r : Recovery} (h : RecoveryDid) → Going b n m₀ m r₀ r → n < b → notIdle r ≡ true → h ≡ recoveryLine m r
     → length (h .mem .vol) ≡ length (m .vol) → length (h .mem .pers) ≡ length (m .pers) → Going b (n + 1) m₀ (h .mem) r₀ (h .rec)
 going-more {b} {n} {m₀} {m} {r₀} {r} h g below i e vol pers =
     let left : b - n ≡ suc (b - (n + 1)) = omega arith in
@@ -55,8 +55,8 @@ going-more {b} {n} {m₀} {m} {r₀} {r} h g below i e vol pers =
     }
 
 -- what n lines have answered
-abbrev pub soFar : ℕ → Memory → Recovery → Healed
-soFar n m r = healedOf (healOf (pick (notIdle r) (Taken n) (Recovered n)) r) m
+abbrev pub soFar : ℕ → Memory → Recovery → RecoveryDid
+soFar n m r = recoveryDidOf (recoveryTurnOf (pick (notIdle r) (Taken n) (Recovered n)) r) m
 
 pub going-idle : {b n : ℕ} {m₀ m : Memory} {r₀ r : Recovery} → Going b n m₀ m r₀ r → notIdle r ≡ false → soFar n m r ≡ upTo b (says 0 0) m₀ r₀
 going-idle {b} {n} {m₀} {m} {r₀} {r} g i =

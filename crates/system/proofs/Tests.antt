@@ -7,11 +7,11 @@ use Rattle.dtml.specs.declared.Answer.the-variants.{Taken, Recovered}
 use Rattle.dtml.specs.declared.Recovery.{Recovery}
 use Rattle.dtml.specs.Table.{reply, says}
 use Rattle.dtml.specs.Store.{Memory}
-use Rattle.dtml.specs.Lines.{heal}
+use Rattle.dtml.specs.Lines.{recoverTo}
 
-pub heal-pick : (b : Bool) (r s : Recovery) (m : Memory) → heal m (pick b r s) ≡ pick b (heal m r) (heal m s)
-heal-pick true r s m = refl
-heal-pick false r s m = refl
+pub recover-to-pick : (b : Bool) (r s : Recovery) (m : Memory) → recoverTo m (pick b r s) ≡ pick b (recoverTo m r) (recoverTo m s)
+recover-to-pick true r s m = refl
+recover-to-pick false r s m = refl
 
 pub reply-pick : (b : Bool) (n : ℕ) → reply (pick b (Taken n) (Recovered n)) ≡ says (pick b 0 6) n
 reply-pick true n = refl

@@ -1,1 +1,1 @@
-pub mod Healing
+pub mod Recovering

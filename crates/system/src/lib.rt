@@ -3,7 +3,7 @@
 mod recovery;
 mod words;
 
-use crate::recovery::Heal;
+use crate::recovery::RecoveryTurn;
 use crate::recovery::recovery_line;
 use crate::recovery::recovery_lines;
 use crate::words::copy;
@@ -26,7 +26,7 @@ ghost use Rattle.dtml.specs.Lines.{crashTx};
 ghost use Rattle.dtml.specs.declared.Sys.the-variants.{Flush as flushAsked, Crash as crashAsked, Recover as recoverAsked, RecoverUpTo as recoverUpTo};
 ghost use Rattle.dtml.specs.Checks.{unfitBeside};
 ghost use Rattle.dtml.specs.Handed.{callSystem};
-ghost use Rattle.system.specs.Healing.{happenedOf};
+ghost use Rattle.system.specs.Recovering.{happenedOf};
 
 // What a call gives back: it was refused; or it was a flush, which leaves recovery where it stands; or a crash, which leaves it at C1 and reaches every
 // record (`crash_tx`); or so many recovery lines.
@@ -36,7 +36,7 @@ pub enum Event {
     },
     Flushed,
     Crashed,
-    Healed {
+    RecoveryLines {
         answer: Answer,
         lines: u64,
         recovery: Recovery,
@@ -49,12 +49,12 @@ fn refused(answer: Answer) -> Event
     Event::Refused { answer }
 }
 
-fn healed(heal: Heal, lines: u64) -> Event
-    ensures { λ r. ⌜ r ≡ Event.Healed (heal .answer) lines (heal .recovery) ⌝ }
+fn lines_done(turn: RecoveryTurn, lines: u64) -> Event
+    ensures { λ r. ⌜ r ≡ Event.RecoveryLines (turn .answer) lines (turn .recovery) ⌝ }
 {
-    let answer = heal.answer;
-    let recovery = heal.recovery;
-    Event::Healed {
+    let answer = turn.answer;
+    let recovery = turn.recovery;
+    Event::RecoveryLines {
         answer,
         lines,
         recovery,
@@ -137,7 +137,7 @@ fn recover(
     if !not_idle(recovery) {
         return refused(Answer::Idle);
     }
-    healed(recovery_line(vol, pers, old, marks, glb, recovery), 1)
+    lines_done(recovery_line(vol, pers, old, marks, glb, recovery), 1)
 }
 
 // As many recovery lines as the allowance, or all that are left up to and with C6 if those are fewer.
@@ -159,9 +159,9 @@ fn recover_up_to(
     if !not_idle(recovery) {
         return refused(Answer::Idle);
     }
-    let heal = recovery_lines(vol, pers, old, marks, glb, recovery, allowance);
-    let answer = heal.answer;
-    healed(heal, value(answer))
+    let turn = recovery_lines(vol, pers, old, marks, glb, recovery, allowance);
+    let answer = turn.answer;
+    lines_done(turn, value(answer))
 }
 
 pub fn call_system(

@@ -14,19 +14,19 @@ ghost use Rattle.dtml.specs.Lines.{anyMark, recoveryLine};
 ghost use Rattle.dtml.specs.Table.{says};
 ghost use Rattle.dtml.specs.Checks.{unfitBeside, notIdle};
 ghost use Rattle.dtml.specs.Calls.{upTo};
-ghost use Rattle.system.specs.Healing.{healOf, healedOf};
+ghost use Rattle.system.specs.Recovering.{recoveryTurnOf, recoveryDidOf};
 
 // What a line of recovery, or some, leave beside the memory.
-pub(crate) struct Heal {
+pub(crate) struct RecoveryTurn {
     pub answer: Answer,
     pub recovery: Recovery,
 }
 
 // A line that answers 0, with where recovery stands after it.
-fn taken(recovery: Recovery) -> Heal
-    ensures { λ r. ⌜ r ≡ healOf (Answer.Taken 0) recovery ⌝ }
+fn taken(recovery: Recovery) -> RecoveryTurn
+    ensures { λ r. ⌜ r ≡ recoveryTurnOf (Answer.Taken 0) recovery ⌝ }
 {
-    Heal {
+    RecoveryTurn {
         answer: Answer::Taken { lines: 0 },
         recovery,
     }
@@ -60,9 +60,9 @@ pub(crate) fn recovery_line(
     marks: &mut Marks,
     glb: &mut u32,
     recovery: Recovery,
-) -> Heal
+) -> RecoveryTurn
     requires { ⌜ unfitBeside (length (now vol)) (length (now pers)) (length (now old)) (now marks) (now glb) recovery ≡ false ⌝ }
-    ensures { λ r. ⌜ healedOf r (memory (now (vol .exit)) (now (pers .exit)) (now (old .entry)) (now (marks .exit)) (now (glb .exit)))
+    ensures { λ r. ⌜ recoveryDidOf r (memory (now (vol .exit)) (now (pers .exit)) (now (old .entry)) (now (marks .exit)) (now (glb .exit)))
         ≡ recoveryLine (memory (now (vol .entry)) (now (pers .entry)) (now (old .entry)) (now (marks .entry)) (now (glb .entry))) recovery ⌝ }
 {
     match recovery {
@@ -83,7 +83,7 @@ pub(crate) fn recovery_line(
         }
         Recovery::C6 => {
             *glb = 0;
-            Heal {
+            RecoveryTurn {
                 answer: Answer::Recovered { lines: 0 },
                 recovery: Recovery::Idle,
             }
@@ -92,16 +92,16 @@ pub(crate) fn recovery_line(
 }
 
 // What the lines carried out so far answer: 6 if C6 was among them, after which recovery is idle.
-fn answered(recovery: Recovery, lines: u64) -> Heal
-    ensures { λ r. ⌜ r ≡ healOf (pick (notIdle recovery) (Answer.Taken lines) (Answer.Recovered lines)) recovery ⌝ }
+fn answered(recovery: Recovery, lines: u64) -> RecoveryTurn
+    ensures { λ r. ⌜ r ≡ recoveryTurnOf (pick (notIdle recovery) (Answer.Taken lines) (Answer.Recovered lines)) recovery ⌝ }
 {
     if not_idle(recovery) {
-        Heal {
+        RecoveryTurn {
             answer: Answer::Taken { lines },
             recovery,
         }
     } else {
-        Heal {
+        RecoveryTurn {
             answer: Answer::Recovered { lines },
             recovery,
         }
@@ -116,9 +116,9 @@ pub(crate) fn recovery_lines(
     glb: &mut u32,
     recovery: Recovery,
     allowance: u64,
-) -> Heal
+) -> RecoveryTurn
     requires { ⌜ (unfitBeside (length (now vol)) (length (now pers)) (length (now old)) (now marks) (now glb) recovery ≡ false) × (notIdle recovery ≡ true) ⌝ }
-    ensures { λ r. ⌜ healedOf r (memory (now (vol .exit)) (now (pers .exit)) (now (old .entry)) (now (marks .exit)) (now (glb .exit)))
+    ensures { λ r. ⌜ recoveryDidOf r (memory (now (vol .exit)) (now (pers .exit)) (now (old .entry)) (now (marks .exit)) (now (glb .exit)))
         ≡ upTo allowance (says 0 0) (memory (now (vol .entry)) (now (pers .entry)) (now (old .entry)) (now (marks .entry)) (now (glb .entry))) recovery ⌝ }
 {
     let mut at = recovery;

@@ -27,7 +27,7 @@ use Rattle.lines.specs.declared.turn.Turn.the-variants as Turn
 use Rattle.lines.specs.Turning.{turnedOf}
 use Rattle.system.specs.declared.Event.{Event}
 use Rattle.system.specs.declared.Event.the-variants as Event
-use Rattle.system.specs.Healing.{happenedOf}
+use Rattle.system.specs.Recovering.{happenedOf}
 use Rattle.reader.specs.declared.Item.{Item}
 use Rattle.reader.specs.declared.Item.the-variants.{End, Stops, Does}
 use Rattle.reader.specs.Trace.{found, script, scriptOf}
@@ -139,14 +139,14 @@ module _ (m : Memory) (r : Recovery) (t : Tx) (c : Course) (out : List ℕ) wher
         (ap isCrash (as-happened is))
 
     -- one line at the most
-    pub lines-low : {a : Answer} {lines : ℕ} {r′ : Recovery} → z ≡ Event.Healed a lines r′ → OneLine (sys k) → lines ≤ 1
+    pub lines-low : {a : Answer} {lines : ℕ} {r′ : Recovery} → z ≡ Event.RecoveryLines a lines r′ → OneLine (sys k) → lines ≤ 1
     lines-low {a} is one = subst (λ x. x ≤ 1) (counted-as is .lines) (one (reply a))
 
-    pub none-healed : {a : Answer} {lines : ℕ} {r′ : Recovery} {n : Totals} {o : Buffer} → z ≡ Event.Healed a lines r′ → Adds n 0 lines 0
+    pub none-lines : {a : Answer} {lines : ℕ} {r′ : Recovery} {n : Totals} {o : Buffer} → z ≡ Event.RecoveryLines a lines r′ → Adds n 0 lines 0
         → o ≡ puts (buffer out (c .place)) (answerText (n .records) (reply a)) → length (answerText (n .records) (reply a)) ≤ 30
         → Told (sys k) m′ r′ t n o false
     unfolding carry
-    none-healed is n printed short =
+    none-lines is n printed short =
         told (sys k) _ (ap (eventLeft r t) (as-happened is)) (none-counts (counted-as is) n) printed short (ap isCrash (as-happened is))
 
 -- ---- which of what was handed over is said to be changed
@@ -159,21 +159,21 @@ module _ {x : Moved} {d : Course} {r : Recovery} {t : Tx} {vol pers old marks ou
   -- neither
   pub still-moves : x ≡ stillOf d t → (moment (memory vol pers old marks g) r t n (buffer out place) false ≡ w) × B → MovesSo vol pers old marks out r t w B x
   still-moves is so = subst (MovesSo vol pers old marks out r t w B) (sym (is ∙ ap (λ (u : Course). stillOf u t) on-course))
-      (record { so = so .0; turned-only = λ e. true-not (sym e); unhealed = λ e. refl }, so .1)
+      (record { so = so .0; turned-only = λ e. true-not (sym e); not-recovers = λ e. refl }, so .1)
 
   -- the record
-  pub went-moves : {t′ : Tx} → x ≡ record { course = d; tx = t′; recovery = Idle; turned = true; healed = false; crashed = false }
+  pub went-moves : {t′ : Tx} → x ≡ record { course = d; tx = t′; recovery = Idle; turned = true; recovers = false; crashed = false }
       → (moment (memory vol pers old marks g) r t′ n (buffer out place) false ≡ w) × B → MovesSo vol pers old marks out r t w B x
   went-moves {t′} is so = subst (MovesSo vol pers old marks out r t w B)
-      (sym (is ∙ ap (λ (u : Course). record { course = u; tx = t′; recovery = Idle; turned = true; healed = false; crashed = false }) on-course))
-      (record { so = so .0; turned-only = λ e. refl; unhealed = λ e. refl }, so .1)
+      (sym (is ∙ ap (λ (u : Course). record { course = u; tx = t′; recovery = Idle; turned = true; recovers = false; crashed = false }) on-course))
+      (record { so = so .0; turned-only = λ e. refl; not-recovers = λ e. refl }, so .1)
 
   -- recovery
-  pub healed-moves : {r′ : Recovery} {b : Bool} → x ≡ record { course = d; tx = tx 0 Fresh; recovery = r′; turned = false; healed = true; crashed = b }
+  pub recovering-moves : {r′ : Recovery} {b : Bool} → x ≡ record { course = d; tx = tx 0 Fresh; recovery = r′; turned = false; recovers = true; crashed = b }
       → (moment (memory vol pers old marks g) r′ t n (buffer out place) b ≡ w) × B → MovesSo vol pers old marks out r t w B x
-  healed-moves {r′} {b} is so = subst (MovesSo vol pers old marks out r t w B)
-      (sym (is ∙ ap (λ (u : Course). record { course = u; tx = tx 0 Fresh; recovery = r′; turned = false; healed = true; crashed = b }) on-course))
-      (record { so = so .0; turned-only = λ e. true-not (sym e); unhealed = λ e. true-not e }, so .1)
+  recovering-moves {r′} {b} is so = subst (MovesSo vol pers old marks out r t w B)
+      (sym (is ∙ ap (λ (u : Course). record { course = u; tx = tx 0 Fresh; recovery = r′; turned = false; recovers = true; crashed = b }) on-course))
+      (record { so = so .0; turned-only = λ e. true-not (sym e); not-recovers = λ e. true-not e }, so .1)
 
 -- ---- one item
 
@@ -198,7 +198,7 @@ Stays vol pers old marks r t c out x i =
     Moves x (memory vol pers old marks (x .course .glb)) out r t (turnOf (memory vol pers old marks (c .glb)) r t c out i) × BriefAt (memory vol pers old marks (c .glb)) r t c i
 
 stop-moves : (vol pers old marks : List ℕ) (r : Recovery) (t : Tx) (c : Course) (out : List ℕ) (k : ℕ) → Stays vol pers old marks r t c out (stillOf (overAt c k) t) (Stops k)
-stop-moves vol pers old marks r t c out k = (record { so = refl; turned-only = λ e. true-not (sym e); unhealed = λ e. refl }, tt)
+stop-moves vol pers old marks r t c out k = (record { so = refl; turned-only = λ e. true-not (sym e); not-recovers = λ e. refl }, tt)
 
 module _ (vol pers old marks : List ℕ) (r : Recovery) (t : Tx) (c : Course) (out : List ℕ) {item : Item} {x : Moved} where
   pub turn-stops : {k : ℕ} → item ≡ Stops k → x ≡ stillOf (overAt c k) t → Stays vol pers old marks r t c out x item

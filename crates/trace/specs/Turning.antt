@@ -29,7 +29,7 @@ abbrev pub onCourse : ℕ → Totals → ℕ → Course
 onCourse glb t place = record { glb = glb; totals = t; place = place; going = true; refusal = 0 }
 
 abbrev pub stillOf : Course → Tx → Moved
-stillOf c t = record { course = c; tx = t; recovery = Idle; turned = false; healed = false; crashed = false }
+stillOf c t = record { course = c; tx = t; recovery = Idle; turned = false; recovers = false; crashed = false }
 
 -- ---- a turn
 
@@ -47,7 +47,7 @@ pub record Moment : Type 0 where
 abbrev pub momentOf : Moved → Memory → List ℕ → Recovery → Tx → Moment
 momentOf x m out r t = record {
   mem = m;
-  rec = pick (x .healed) (x .recovery) r;
+  rec = pick (x .recovers) (x .recovery) r;
   tx = pick (x .turned) (x .tx) t;
   totals = x .course .totals;
   text = buffer out (x .course .place);
@@ -87,8 +87,8 @@ turnOf m r t c out (Does call bytes) = callMoment m r t c out call
 -- what the code gives back is that moment; where the record is changed recovery is not, and a crash changes recovery
 pub record Moves (x : Moved) (m : Memory) (out : List ℕ) (r : Recovery) (t : Tx) (moment : Moment) : Type 0 where
   pub so : momentOf x m out r t ≡ moment
-  pub turned-only : x .turned ≡ true → x .healed ≡ false
-  pub unhealed : x .healed ≡ false → x .crashed ≡ false
+  pub turned-only : x .turned ≡ true → x .recovers ≡ false
+  pub not-recovers : x .recovers ≡ false → x .crashed ≡ false
 
 abbrev pub slotAt : Item → ℕ
 slotAt End = 0

@@ -149,7 +149,7 @@ pub(crate) struct Moved {
     pub tx: Tx,
     pub recovery: Recovery,
     pub turned: bool,
-    pub healed: bool,
+    pub recovers: bool,
     pub crashed: bool,
 }
 
@@ -195,28 +195,28 @@ fn still(course: Course, tx: Tx) -> Moved
         tx,
         recovery: Recovery::Idle,
         turned: false,
-        healed: false,
+        recovers: false,
         crashed: false,
     }
 }
 
 // The record is changed to this one.
 fn went(course: Course, tx: Tx) -> Moved
-    ensures { λ r. ⌜ r ≡ record { course = course; tx = tx; recovery = Recovery.Idle; turned = true; healed = false; crashed = false } ⌝ }
+    ensures { λ r. ⌜ r ≡ record { course = course; tx = tx; recovery = Recovery.Idle; turned = true; recovers = false; crashed = false } ⌝ }
 {
     Moved {
         course,
         tx,
         recovery: Recovery::Idle,
         turned: true,
-        healed: false,
+        recovers: false,
         crashed: false,
     }
 }
 
 // Recovery is changed to this.
-fn healed(course: Course, recovery: Recovery, crashed: bool) -> Moved
-    ensures { λ r. ⌜ r ≡ record { course = course; tx = txOf 0 Fresh; recovery = recovery; turned = false; healed = true; crashed = crashed } ⌝ }
+fn recovering(course: Course, recovery: Recovery, crashed: bool) -> Moved
+    ensures { λ r. ⌜ r ≡ record { course = course; tx = txOf 0 Fresh; recovery = recovery; turned = false; recovers = true; crashed = crashed } ⌝ }
 {
     let tx = Tx {
         loc: 0,
@@ -227,7 +227,7 @@ fn healed(course: Course, recovery: Recovery, crashed: bool) -> Moved
         tx,
         recovery,
         turned: false,
-        healed: true,
+        recovers: true,
         crashed,
     }
 }
@@ -327,16 +327,16 @@ fn on_none(
         Event::Flushed => still(going_on(glb, added(before, 0, 0, 0), place), tx),
         Event::Crashed => {
             let totals = added(before, 1, 0, cut_by_crash(recovery, &*marks));
-            healed(going_on(glb, totals, place), Recovery::C1, true)
+            recovering(going_on(glb, totals, place), Recovery::C1, true)
         }
-        Event::Healed {
+        Event::RecoveryLines {
             answer,
             lines,
             recovery: next,
         } => {
             let totals = added(before, 0, lines, 0);
             let put = put_answer_if(out, place, totals.records, answer);
-            healed(going_on(glb, totals, put), next, false)
+            recovering(going_on(glb, totals, put), next, false)
         }
     }
 }
@@ -426,7 +426,7 @@ fn go_through(
         if done.turned {
             rows[i] = done.tx;
         } else {
-            if done.healed {
+            if done.recovers {
                 recovery = done.recovery;
                 if done.crashed {
                     rows = crash_txs(rows);

@@ -17,7 +17,7 @@ use Rattle.lines.specs.declared.turn.Turn.the-variants as Turn
 use Rattle.lines.specs.Turning.{turnedOf}
 use Rattle.system.specs.declared.Event.{Event}
 use Rattle.system.specs.declared.Event.the-variants as Event
-use Rattle.system.specs.Healing.{happenedOf}
+use Rattle.system.specs.Recovering.{happenedOf}
 use Rattle.machine.specs.declared.Held.{Held}
 use Rattle.machine.specs.declared.After.{After}
 use Rattle.machine.specs.declared.work.Worked.{Worked}
@@ -77,13 +77,13 @@ abbrev eventIn : Happened → Event × Memory
 eventIn (nothing a m) = (Event.Refused (answerOf a), m)
 eventIn (a-flush m) = (Event.Flushed, m)
 eventIn (a-crash m) = (Event.Crashed, m)
-eventIn (some-lines k h) = (Event.Healed (answerOf (h .reply)) k (h .rec), h .mem)
+eventIn (some-lines k h) = (Event.RecoveryLines (answerOf (h .reply)) k (h .rec), h .mem)
 
 event-back : (x : Event) (m : Memory) → eventIn (happenedOf x m) ≡ (x, m)
 event-back (Event.Refused a) m = ap (λ b. (Event.Refused b, m)) (answer-back a)
 event-back Event.Flushed m = refl
 event-back Event.Crashed m = refl
-event-back (Event.Healed a k r) m = ap (λ b. (Event.Healed b k r, m)) (answer-back a)
+event-back (Event.RecoveryLines a k r) m = ap (λ b. (Event.RecoveryLines b k r, m)) (answer-back a)
 
 pub event-same : {m m′ : Memory} {d : Happened} (x y : Event) → happenedOf x m ≡ d → happenedOf y m′ ≡ d → _≡_ {A = Event × Memory} (x, m) (y, m′)
 event-same {m} {m′} x y p q = sym (event-back x m) ∙ ap eventIn (p ∙ sym q) ∙ event-back y m′

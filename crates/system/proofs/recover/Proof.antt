@@ -33,8 +33,8 @@ recovery-line-requires c κs =
     let fit = c .before .before .before .before .before .before in
     sym (fit .before .unfit-beside .ensures) ∙ fit .if1 .left
 
-healed-requires : tie.Need-healed-requires
-healed-requires c κs = search needs
+lines-done-requires : tie.Need-lines-done-requires
+lines-done-requires c κs = search needs
 
 same-length : tie.Need-same-length
 same-length c = search needs
@@ -46,9 +46,9 @@ returns-3 : tie.Need-returns-3
 unfolding callSystem
 returns-3 c =
     let line = c .before .before .before .before .before in
-    let healing = line .before .before .before .before .before in
-    let fit = healing .before .before in
-    rw (c .healed .ensures, ← (fit .before .unfit-beside .ensures), fit .if1 .left, ← (healing .before .not-idle .ensures), healing .if2 .left)
+    let recovering = line .before .before .before .before .before in
+    let fit = recovering .before .before in
+    rw (c .lines-done .ensures, ← (fit .before .unfit-beside .ensures), fit .if1 .left, ← (recovering .before .not-idle .ensures), recovering .if2 .left)
     (ap (some-lines 1) (line .recovery-line .ensures))
 
 pub recover-spec : {M : Type 1} → statement M
@@ -62,7 +62,7 @@ recover-spec =
     refused-requires-2
     returns-2
     recovery-line-requires
-    healed-requires
+    lines-done-requires
     same-length
     same-length-2
     returns-3)

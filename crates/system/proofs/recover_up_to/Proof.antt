@@ -4,7 +4,7 @@ use mathlib.Core.Path.{sym, ap, _∙_}
 use borrow.Author.Tests.{not-false}
 use borrow.Author.Needs.{needs}
 use Rattle.dtml.specs.Handed.{callSystem, some-lines}
-use Rattle.dtml.specs.Asked.{Healed}
+use Rattle.dtml.specs.Asked.{RecoveryDid}
 use Rattle.system.proofs.recover_up_to.Statement.{statement}
 use Rattle.system.proofs.recover_up_to.Tie as tie
 
@@ -33,16 +33,16 @@ returns-2 c =
 
 recovery-lines-requires : tie.Need-recovery-lines-requires
 recovery-lines-requires c κs =
-    let healing = c .before .before .before .before in
-    let test = healing .before .not-idle in
-    let fit = healing .before .before in
-    (sym (fit .before .unfit-beside .ensures) ∙ fit .if1 .left, sym (test .ensures) ∙ not-false (test .result) (healing .if2 .left))
+    let recovering = c .before .before .before .before in
+    let test = recovering .before .not-idle in
+    let fit = recovering .before .before in
+    (sym (fit .before .unfit-beside .ensures) ∙ fit .if1 .left, sym (test .ensures) ∙ not-false (test .result) (recovering .if2 .left))
 
 value-requires : tie.Need-value-requires
 value-requires c κs = search needs
 
-healed-requires : tie.Need-healed-requires
-healed-requires c κs = search needs
+lines-done-requires : tie.Need-lines-done-requires
+lines-done-requires c κs = search needs
 
 same-length : tie.Need-same-length
 same-length c = search needs
@@ -54,10 +54,10 @@ returns-3 : tie.Need-returns-3
 unfolding callSystem
 returns-3 c =
     let lines = c .before .before .before .before .before .before in
-    let healing = lines .before .before .before .before .before in
-    let fit = healing .before .before in
-    rw (c .healed .ensures, c .before .value .ensures, ← (fit .before .unfit-beside .ensures), fit .if1 .left, ← (healing .before .not-idle .ensures), healing .if2 .left)
-    (ap (λ (h : Healed). some-lines (h .reply .value) h) (lines .recovery-lines .ensures))
+    let recovering = lines .before .before .before .before .before in
+    let fit = recovering .before .before in
+    rw (c .lines-done .ensures, c .before .value .ensures, ← (fit .before .unfit-beside .ensures), fit .if1 .left, ← (recovering .before .not-idle .ensures), recovering .if2 .left)
+    (ap (λ (h : RecoveryDid). some-lines (h .reply .value) h) (lines .recovery-lines .ensures))
 
 pub recover-up-to-spec : {M : Type 1} → statement M
 recover-up-to-spec =
@@ -71,7 +71,7 @@ recover-up-to-spec =
     returns-2
     recovery-lines-requires
     value-requires
-    healed-requires
+    lines-done-requires
     same-length
     same-length-2
     returns-3)

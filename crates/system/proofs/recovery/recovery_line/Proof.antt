@@ -4,7 +4,7 @@ use mathlib.Core.Path.{refl, _∙_}
 use borrow.Author.Needs.{needs}
 use Rattle.dtml.specs.Lines.{recoveryLine, anyMark}
 use Rattle.system.proofs.Named.{chosen-in, named-in, flush-in}
-use Rattle.system.proofs.Tests.{heal-pick}
+use Rattle.system.proofs.Tests.{recover-to-pick}
 use Rattle.system.proofs.recovery.recovery_line.Statement.{statement}
 use Rattle.system.proofs.recovery.recovery_line.Tie as tie
 
@@ -89,7 +89,7 @@ returns-2 c =
       c .taken2 .ensures,
       c .before .c1 .ensures,
     )
-    (heal-pick (anyMark (c .before .before .before .before .before .before .before .before .args .marks .now)) _ _ _)
+    (recover-to-pick (anyMark (c .before .before .before .before .before .before .before .before .args .marks .now)) _ _ _)
 
 returns-3 : tie.Need-returns-3
 unfolding recoveryLine

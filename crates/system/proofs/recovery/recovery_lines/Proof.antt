@@ -54,9 +54,9 @@ loop-again c =
     let done = c .before .before .before .before in
     let asked = done .before .before .before .before .before .before in
     let turn = asked .before in
-    let healing = sym (asked .not-idle .ensures) ∙ not-false (asked .not-idle .result)
+    let recovering = sym (asked .not-idle .ensures) ∙ not-false (asked .not-idle .result)
     (done .before .before .before .before .before .if1 .left) in
-    going-more _ (turn .before .loop .inv) (turn .loop-test .taken) healing (done .recovery-line .ensures) (done .recovery-line .kept .0)
+    going-more _ (turn .before .loop .inv) (turn .loop-test .taken) recovering (done .recovery-line .ensures) (done .recovery-line .kept .0)
     (done .recovery-line .kept .1 .0)
 
 answered-requires-2 : tie.Need-answered-requires-2 Inv-loop μ-loop

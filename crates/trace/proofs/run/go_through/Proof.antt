@@ -183,7 +183,7 @@ module _ (s : RefT (List ℕ)) (z : Five) where
         subst Standing-at (sym (moved-to st r e))
         (p .0, subst (λ (b : Bool). measure (now s) (placeAfter at (r .item)) (m .course .going) < measure (now s) at b) (sym on) (p .1))
 
-    abbrev on-state : (v : Recovery) → v ≡ pick (m .healed) (m .recovery) (st .recovery) → (ts : List Tx) → ts ≡ put-back → r .reader .trace ≡ s → r .reader .at < 2 ^ 64 → Is C′.the-row (m .course) (mach-course (m .course) ∷ [])
+    abbrev on-state : (v : Recovery) → v ≡ pick (m .recovers) (m .recovery) (st .recovery) → (ts : List Tx) → ts ≡ put-back → r .reader .trace ≡ s → r .reader .at < 2 ^ 64 → Is C′.the-row (m .course) (mach-course (m .course) ∷ [])
         → Is Y.the-row v (mach-recovery v ∷ []) → Fit z w′ → State
     on-state v qv ts q same fits is v-is fit = record {
       reader = r .reader;
@@ -204,17 +204,17 @@ module _ (s : RefT (List ℕ)) (z : Five) where
     back-with crashed turned = reach crashed (set (st .rows) (slotAt (r .item)) (pick turned (m .tx) (recordAt (st .rows) (slotAt (r .item)))))
 
     when-turned : m .turned ≡ true → set (st .rows) (slotAt (r .item)) (m .tx) ≡ put-back
-    when-turned yes = rw (yes, e₂ .0 .unhealed (e₂ .0 .turned-only yes))
+    when-turned yes = rw (yes, e₂ .0 .not-recovers (e₂ .0 .turned-only yes))
 
     -- the record as it was
     unless-turned : m .turned ≡ false → reach (m .crashed) (st .rows) ≡ put-back
     unless-turned off = ap (reach (m .crashed)) (sym (set-getD (st .rows) (slotAt (r .item)) (txOf 0 Fresh))) ∙ sym (ap (back-with (m .crashed)) off)
 
-    when-healed : m .healed ≡ true → m .recovery ≡ pick (m .healed) (m .recovery) (st .recovery)
-    when-healed yes = sym (ap (λ (b : Bool). pick b (m .recovery) (st .recovery)) yes)
+    when-recovers : m .recovers ≡ true → m .recovery ≡ pick (m .recovers) (m .recovery) (st .recovery)
+    when-recovers yes = sym (ap (λ (b : Bool). pick b (m .recovery) (st .recovery)) yes)
 
-    unless-healed : m .healed ≡ false → st .recovery ≡ pick (m .healed) (m .recovery) (st .recovery)
-    unless-healed off = sym (ap (λ (b : Bool). pick b (m .recovery) (st .recovery)) off)
+    unless-recovers : m .recovers ≡ false → st .recovery ≡ pick (m .recovers) (m .recovery) (st .recovery)
+    unless-recovers off = sym (ap (λ (b : Bool). pick b (m .recovery) (st .recovery)) off)
 
 true-not : true ≡ false → ⊥
 true-not e = let never : _≡_ {A = ℕ} 0 1 = cc in omega arith
@@ -371,7 +371,7 @@ module _ {M : Type 1} (𝓤 : URA M) (H : Heap 𝓤) (A : Atoms 𝓤) (W : Given
           said : Says-of (st .w) (st .course) (st .recovery) (recordAt (st .rows) (slotAt (r .item))) (r .item) (x .0) (x .1)
           said = subst (λ (k : ℕ). Says-of (st .w) (st .course) (st .recovery) (recordAt (st .rows) k) (r .item) (x .0) (x .1)) (e₁ .0) (e₂ .1 .1)
 
-          abbrev next-state : (v : Recovery) → v ≡ pick (x .0 .healed) (x .0 .recovery) (st .recovery) → Is Y.the-row v (mach-recovery v ∷ []) → (us : List Tx) → us ≡ put-back s z st on r (e .1) (x .0) (x .1) said → State s z
+          abbrev next-state : (v : Recovery) → v ≡ pick (x .0 .recovers) (x .0 .recovery) (st .recovery) → Is Y.the-row v (mach-recovery v ∷ []) → (us : List Tx) → us ≡ put-back s z st on r (e .1) (x .0) (x .1) said → State s z
           next-state v qv v-is us q = on-state s z st on r (e .1) (x .0) (x .1) said v qv us q same fits course-back v-is (e₂ .1 .0)
 
           -- the locals at a turn's end, of which those from 11 on are let go
@@ -397,7 +397,7 @@ module _ {M : Type 1} (𝓤 : URA M) (H : Heap 𝓤) (A : Atoms 𝓤) (W : Given
               sets ! (addr ! (from ! (stop !))) 33 refl (tt, tt) $ sets ! (bin ! (held ! 33 refl) (held ! 32 refl) tt) 34 refl (tt, tt) $
               assigns-last ! (of-opd ! (field-of ! 13 1 refl refl tt)) (from ! (hop ! (look ! 34 refl) (stop !))) (store-elem ! 9 (st .rows) i l₉ 0 (x .0 .tx) refl in-rows tx-back) $
               forgets-of ! E 11 (used (st .recovery) (set (st .rows) i (x .0 .tx)) (has _ ∷ has _ ∷ has _ ∷ [])) tt _ refl $
-              back (next-state (st .recovery) (unless-healed s z st on r (e .1) (x .0) (x .1) said (said .0 .turned-only (is-true (x .0 .turned) yes))) (st .recovery-is) (set (st .rows) i (x .0 .tx))
+              back (next-state (st .recovery) (unless-recovers s z st on r (e .1) (x .0) (x .1) said (said .0 .turned-only (is-true (x .0 .turned) yes))) (st .recovery-is) (set (st .rows) i (x .0 .tx))
               (ap (λ (k : ℕ). set (st .rows) k (x .0 .tx)) (e₁ .0) ∙ when-turned s z st on r (e .1) (x .0) (x .1) said (is-true (x .0 .turned) yes))) less)
               (λ no. sets ! (of-opd ! (field-of ! 13 4 refl refl tt)) 35 refl (tt, tt) $
               branches ! (held ! 35 refl)
@@ -411,17 +411,17 @@ module _ {M : Type 1} (𝓤 : URA M) (H : Heap 𝓤) (A : Atoms 𝓤) (W : Given
               land ! (from ! (stop !)) (init ! 37 refl (typed-array 𝓤 H A W us _ (e₃ .0))) $
               assigns-last ! (of-opd ! (held ! 37 refl)) (from ! (stop !)) (store ! 9 refl (typed-array 𝓤 H A W us _ (e₃ .0))) $ becomes ! 9 (‵ (records fullShare us l₉ 0)) refl (array-records 𝓤 H A W us _ (e₃ .0) l₉) $
               forgets-of ! E 11 (used (x .0 .recovery) us (bare ∷ bare ∷ bare ∷ has _ ∷ has _ ∷ has _ ∷ has _ ∷ [])) tt _ refl $
-              back (next-state (x .0 .recovery) (when-healed s z st on r (e .1) (x .0) (x .1) said (is-true (x .0 .healed) yes)) recovery-back us
+              back (next-state (x .0 .recovery) (when-recovers s z st on r (e .1) (x .0) (x .1) said (is-true (x .0 .recovers) yes)) recovery-back us
               (e₃ .1 ∙ sym (ap (λ (b : Bool). reach b (st .rows)) (is-true (x .0 .crashed) cut)) ∙ unless-turned s z st on r (e .1) (x .0) (x .1) said (is-false (x .0 .turned) no))) less)))
               (λ whole. skips ! $
               forgets-of ! E 11 (used (x .0 .recovery) (st .rows) (bare ∷ bare ∷ bare ∷ has _ ∷ has _ ∷ [])) tt _ refl $
-              back (next-state (x .0 .recovery) (when-healed s z st on r (e .1) (x .0) (x .1) said (is-true (x .0 .healed) yes)) recovery-back (st .rows)
+              back (next-state (x .0 .recovery) (when-recovers s z st on r (e .1) (x .0) (x .1) said (is-true (x .0 .recovers) yes)) recovery-back (st .rows)
               (sym (ap (λ (b : Bool). reach b (st .rows)) (is-false (x .0 .crashed) whole)) ∙ unless-turned s z st on r (e .1) (x .0) (x .1) said (is-false (x .0 .turned) no))) less))
               -- neither is
               (λ off. skips ! $
               forgets-of ! E 11 (used (st .recovery) (st .rows) (bare ∷ bare ∷ bare ∷ has _ ∷ [])) tt _ refl $
-              back (next-state (st .recovery) (unless-healed s z st on r (e .1) (x .0) (x .1) said (is-false (x .0 .healed) off)) (st .recovery-is) (st .rows)
-              (sym (ap (λ (b : Bool). reach b (st .rows)) (said .0 .unhealed (is-false (x .0 .healed) off))) ∙ unless-turned s z st on r (e .1) (x .0) (x .1) said (is-false (x .0 .turned) no))) less))
+              back (next-state (st .recovery) (unless-recovers s z st on r (e .1) (x .0) (x .1) said (is-false (x .0 .recovers) off)) (st .recovery-is) (st .rows)
+              (sym (ap (λ (b : Bool). reach b (st .rows)) (said .0 .not-recovers (is-false (x .0 .recovers) off))) ∙ unless-turned s z st on r (e .1) (x .0) (x .1) said (is-false (x .0 .turned) no))) less))
 
         more : Seq (Go {0}) W (put 𝓤 H A 15 (‵ (fat fullShare tyBool l₁₅ 0 (vbool true))) (Standing st)) (runs (𝓣 .C) (𝓣 .Λ) E (later-on 2 Mir.turn-1) (anyQ (afterTurn 𝓤 H X L)))
         more =

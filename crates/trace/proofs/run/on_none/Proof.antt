@@ -2,7 +2,7 @@
 use native.Mathlib.Omega.{arith}
 use borrow.Author.Needs.{needs}
 use Rattle.dtml.specs.Store.{memory}
-use Rattle.trace.proofs.Turned.{few-number, refused-number, none-refused, none-flushed, none-crashed, lines-low, none-healed, still-moves, healed-moves}
+use Rattle.trace.proofs.Turned.{few-number, refused-number, none-refused, none-flushed, none-crashed, lines-low, none-lines, still-moves, recovering-moves}
 use Rattle.trace.proofs.run.on_none.Statement.{statement}
 use Rattle.trace.proofs.run.on_none.Tie as tie
 
@@ -53,8 +53,8 @@ added-requires-3 c κs = search needs
 going-on-requires-3 : tie.Need-going-on-requires-3
 going-on-requires-3 c κs = search needs
 
-healed-requires : tie.Need-healed-requires
-healed-requires c κs = search needs
+recovering-requires : tie.Need-recovering-requires
+recovering-requires c κs = search needs
 
 enum-known-event-2 : tie.Need-enum-known-event-2
 enum-known-event-2 c = search needs
@@ -75,8 +75,8 @@ put-answer-if-requires c κs =
 going-on-requires-4 : tie.Need-going-on-requires-4
 going-on-requires-4 c κs = search needs
 
-healed-requires-2 : tie.Need-healed-requires-2
-healed-requires-2 c κs = search needs
+recovering-requires-2 : tie.Need-recovering-requires-2
+recovering-requires-2 c κs = search needs
 
 same-length : tie.Need-same-length
 same-length c =
@@ -132,7 +132,7 @@ returns-3 c =
     let at-enum-told2 = at-cut-by-crash .before .before in
     let at-call-system = at-enum-told2 .before .before .before .before .before .before in
     let start = at-call-system .before .before .before .before .before .before .before .before .before .before in
-    healed-moves (at-going-on3 .going-on3 .ensures) (c .healed .ensures) (none-crashed (memory (start .args .vol .now) (start .args .pers .now) (start .args .old .now) (start .args .marks .now) (start .args .course .glb)) (start .args .recovery) (start .args .tx) (start .args .course) (start .args .out .now) (memory (at-call-system .call-system .last .0) (at-call-system .call-system .last .1 .0) (start .args .old .now) (at-call-system .call-system .last .1 .1 .1 .0) (at-call-system .call-system .last .1 .1 .1 .1 .0)) (start .args .sys) (at-call-system .call-system .ensures) (at-cut-by-crash .cut-by-crash .result) (at-enum-told2 .enum-told2 .given .1) (at-cut-by-crash .cut-by-crash .ensures .0) (at-added3 .added3 .ensures))
+    recovering-moves (at-going-on3 .going-on3 .ensures) (c .recovering .ensures) (none-crashed (memory (start .args .vol .now) (start .args .pers .now) (start .args .old .now) (start .args .marks .now) (start .args .course .glb)) (start .args .recovery) (start .args .tx) (start .args .course) (start .args .out .now) (memory (at-call-system .call-system .last .0) (at-call-system .call-system .last .1 .0) (start .args .old .now) (at-call-system .call-system .last .1 .1 .1 .0) (at-call-system .call-system .last .1 .1 .1 .1 .0)) (start .args .sys) (at-call-system .call-system .ensures) (at-cut-by-crash .cut-by-crash .result) (at-enum-told2 .enum-told2 .given .1) (at-cut-by-crash .cut-by-crash .ensures .0) (at-added3 .added3 .ensures))
 
 same-length-8 : tie.Need-same-length-8
 same-length-8 c =
@@ -155,7 +155,7 @@ returns-4 c =
     let at-event2 = at-added4 .before .before in
     let at-call-system = at-event2 .before .before .before .before .before .before in
     let start = at-call-system .before .before .before .before .before .before .before .before .before .before in
-    healed-moves (at-going-on4 .going-on4 .ensures) (c .healed2 .ensures) (none-healed (memory (start .args .vol .now) (start .args .pers .now) (start .args .old .now) (start .args .marks .now) (start .args .course .glb)) (start .args .recovery) (start .args .tx) (start .args .course) (start .args .out .now) (memory (at-call-system .call-system .last .0) (at-call-system .call-system .last .1 .0) (start .args .old .now) (at-call-system .call-system .last .1 .1 .1 .0) (at-call-system .call-system .last .1 .1 .1 .1 .0)) (start .args .sys) (at-call-system .call-system .ensures) (at-event2 .event2 .given .1) (at-added4 .added4 .ensures) (at-put-answer-if .put-answer-if .ensures .0) (at-put-answer-if .put-answer-if .ensures .1))
+    recovering-moves (at-going-on4 .going-on4 .ensures) (c .recovering2 .ensures) (none-lines (memory (start .args .vol .now) (start .args .pers .now) (start .args .old .now) (start .args .marks .now) (start .args .course .glb)) (start .args .recovery) (start .args .tx) (start .args .course) (start .args .out .now) (memory (at-call-system .call-system .last .0) (at-call-system .call-system .last .1 .0) (start .args .old .now) (at-call-system .call-system .last .1 .1 .1 .0) (at-call-system .call-system .last .1 .1 .1 .1 .0)) (start .args .sys) (at-call-system .call-system .ensures) (at-event2 .event2 .given .1) (at-added4 .added4 .ensures) (at-put-answer-if .put-answer-if .ensures .0) (at-put-answer-if .put-answer-if .ensures .1))
 
 pub on-none-spec : {M : Type 1} → statement M
 on-none-spec =
@@ -175,12 +175,12 @@ on-none-spec =
     cut-by-crash-requires
     added-requires-3
     going-on-requires-3
-    healed-requires
+    recovering-requires
     enum-known-event-2
     added-requires-4
     put-answer-if-requires
     going-on-requires-4
-    healed-requires-2
+    recovering-requires-2
     same-length
     same-length-2
     same-length-3
