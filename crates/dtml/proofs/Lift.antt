@@ -2,7 +2,7 @@
 use Prim.Native.Nat.{ℕ, zero, suc, ◌≤◌, ◌<◌}
 use native.Mathlib.Omega.{arith}
 use borrow.Author.Tests.{leb-true, leb-false, le-leb, lt-leb, not-false, eqb-true}
-use mathlib.Core.Path.{◌≡◌, refl, sym, ap, ◌∙◌}
+use mathlib.Core.Path.{◌≡◌, refl, sym, ap, subst, ◌∙◌}
 use mathlib.Core.Bool.{Bool, true, false, not}
 use mathlib.Core.List.{List, [], ◌∷◌}
 use lib.ListN.{length, get_or, set}
@@ -116,7 +116,9 @@ carries s (on i a) h = go (leb 64 i) refl
   where
     go : (b : Bool) → leb 64 i ≡ b → call s (on i a) ≡ put_back s (on i a) (carry s.mem s.rec (record_at s.txs (slot_of (on i a))) (on i a))
     go true e = no_record s i a h (leb-true 64 i e) ∙ rw (e, one-fit s 0 h (omega arith), put_same s 0)
-    go false e = on-record s i a h (leb-false 64 i e) ∙ rw e
+    go false e =
+        let same : slot_of (on i a) ≡ i = ap (λ b. pick b 0 i) e in
+        subst (λ j. call s (on i a) ≡ put_back s (on i a) (carry s.mem s.rec (record_at s.txs j) (on i a))) (sym same) (on-record s i a h (leb-false 64 i e))
 carries s (sys (flush w)) h = on_none s (flush w) refl (no-crash s.mem s.rec (flush w) refl) (rw (put_same s 0)) h
 carries s (sys crash) h = rw (h, (store-fits s h).beside, put_same s 0)
 carries s (sys recover) h = on_none s recover refl (no-crash s.mem s.rec recover refl) (rw (put_same s 0)) h

@@ -1,4 +1,7 @@
 // Replays a trace for a host in another language, such as C or Rust: numbers and slices of numbers are all that it hands over.
+
+#![tactic(auto)]
+
 ghost use Rattle.std.specs.Prelude.{◌≡◌};
 ghost use Rattle.text.specs.Buffer.{buffer, puts};
 ghost use Rattle.day.specs.Replay.{printed};

@@ -1,5 +1,8 @@
 // A host in Rattle. It joins "Lower Forty" with "Lower Forty B": the link, the history and the area are written in one transaction. The power fails after its
 // second write, recovery takes the join back, and a second transaction writes it whole. Each operation's answer is written, and the three persistent words.
+
+#![tactic(auto)]
+
 mod tell;
 
 ghost use Rattle.std.specs.Prelude.{◌≡◌, ltb};

@@ -1,5 +1,8 @@
 // Any call on one transaction's record, by value: begin, read, write, commit, or a step, which is the one line at which it stands. It tests for fitness all that it
 // is handed, the three word rows, the marks, the count, recovery and the record, and answers for all arguments.
+
+#![tactic(auto)]
+
 mod asks;
 mod transaction;
 pub mod turn;

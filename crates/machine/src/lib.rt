@@ -1,5 +1,8 @@
 // The step machine: every call of document 01 on a whole store, for all arguments. The three word rows and the row of the records are lent; the marks, the
 // count and recovery go in and out by value. A call that is refused changes nothing lent and gives these back as they came.
+
+#![tactic(auto)]
+
 pub mod work;
 
 ghost use Rattle.std.specs.Prelude.{◌≡◌};

@@ -1,5 +1,8 @@
 // Which words are in the log: one mark bit for each word, in four 64-bit numbers, which go by reference.
 // Word w has bit `w % 64` of number `w / 64`. A word of 256 or more is never marked, and marking it changes nothing.
+
+#![tactic(auto)]
+
 ghost use Rattle.std.specs.Prelude.{◌≡◌, ℕ, ◌≤◌, ◌<◌, ◌^◌, length, get_or};
 ghost use Rattle.bits.specs.Marks.{is_marked, mark_of, unmark_of, clear_of, count_of, lowest_of, stands_from};
 

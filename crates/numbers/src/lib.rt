@@ -1,5 +1,8 @@
 // The step machine on a store that is spelled as numbers, for hosts in other languages: numbers and rows of numbers are all that it is lent.
 // specs/Numbers.antt says how a store is spelled and what a call comes to. Any numbers may be lent: those that spell no store are an unfit store.
+
+#![tactic(auto)]
+
 mod held;
 mod records;
 

@@ -1,5 +1,8 @@
 // Times `machine::call`: it makes a store, fit or unfit, calls the machine on it so many times, on rows of its own that it lends, and prints one line. Of the two
 // bytes on standard input the first says which store, and the second is the power of 2 that is the number of calls.
+
+#![tactic(auto)]
+
 ghost use Rattle.std.specs.Prelude.{◌≡◌, ◌++◌, get_or, length, drop};
 ghost use Rattle.io.specs.Counts.{IsPrefixLen};
 ghost use Rattle.dtml.specs.declared.Answer.TheVariants.{Taken};

@@ -1,4 +1,7 @@
 // Reads a trace: its header, and the record at a place of it.
+
+#![tactic(auto)]
+
 mod decode;
 pub mod place;
 pub mod trace;

@@ -1,5 +1,8 @@
 // The transaction records, lent as one row, and all that takes the row apart. A row of any length may be lent: past its end a record reads as fresh and is
 // not written, and only a row of 64 is fit.
+
+#![tactic(auto)]
+
 mod bounds;
 
 ghost use Rattle.std.specs.Prelude.{◌≡◌, not, [], ◌∷◌, length, set, eqb};

@@ -1,4 +1,7 @@
 // Replays the trace that stands on standard input, on a store of its own, and writes what document 01 has it print.
+
+#![tactic(auto)]
+
 ghost use Rattle.std.specs.Prelude.{◌≡◌, ◌++◌, length, drop};
 ghost use Rattle.io.specs.Counts.{IsPrefixLen};
 ghost use Rattle.day.specs.Replay.{printed};

@@ -1,5 +1,8 @@
 // Replays the trace that stands on standard input, as the program replay does, through `trace::replay`: the 64 records are a local of this program and are
 // lent.
+
+#![tactic(auto)]
+
 ghost use Rattle.std.specs.Prelude.{◌≡◌, ◌++◌, ◌≤◌, length, drop, replicate};
 ghost use Rattle.io.specs.Counts.{IsPrefixLen};
 ghost use Rattle.dtml.specs.declared.Phase.TheVariants.{Fresh};

@@ -1,4 +1,7 @@
 // Phases and recovery as numbers, for hosts in other languages; specs/Spelling.antt has the table of both.
+
+#![tactic(auto)]
+
 ghost use Rattle.std.specs.Prelude.{◌≡◌};
 ghost use Rattle.spelling.specs.Spelling.{spell_phase, read_phase, spell_recovery, read_recovery, same_spelling};
 

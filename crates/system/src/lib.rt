@@ -1,5 +1,8 @@
 // Any call on no record: a system flush, a crash, and the lines of recovery. It tests for fitness all that it is handed, the three word rows, the marks,
 // the count and recovery, and answers for all arguments.
+
+#![tactic(auto)]
+
 mod recovery;
 mod words;
 

@@ -1,4 +1,7 @@
 // Text in a lent buffer: each function puts its text at a place, and gives the place after it. A full buffer stays as it is.
+
+#![tactic(auto)]
+
 ghost use Rattle.std.specs.Prelude.{◌+◌, ◌^◌, ◌≤◌, ◌<◌, ◌≡◌, true, [], ◌∷◌, ◌++◌, length};
 ghost use Rattle.text.specs.Text.{decimal, answer_line, stop_line, totals_line};
 ghost use Rattle.text.specs.Buffer.{buffer, put, puts};

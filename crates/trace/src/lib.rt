@@ -1,4 +1,7 @@
 // Replays a trace on a store that is lent.
+
+#![tactic(auto)]
+
 mod finish;
 mod run;
 
