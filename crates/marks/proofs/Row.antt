@@ -1,4 +1,4 @@
--- What the code's steps through a row of 64-bit numbers rest on: each number is below 2 ^ 64, and a fact on the row from number i on is one on number i and the row from i + 1 on.
+-- What the code's steps through a row of 64-bit numbers rest on: a fact on the row from number i on is one on number i and the row from i + 1 on.
 use Prim.Native.Nat.{ℕ, zero, suc, ◌+◌, ◌-◌, ◌/◌, ◌^◌, ◌≤◌, ◌<◌}
 use mathlib.Core.Path.{◌≡◌, refl}
 use mathlib.Core.Bool.{true}
@@ -6,25 +6,12 @@ use mathlib.Core.List.{List, [], ◌∷◌}
 use native.Mathlib.Nat.{mod-eq_of_lt}
 use native.Mathlib.Omega.{arith}
 use borrow.Author.Tests.{ne_eqb}
-use borrow.Kind.Array.{e_int}
-use denote.Array.{each}
-use denote.Shadow.{shadow}
 use lib.Count.{ones, count_trailing_zeros}
 use lib.ListN.{length, get_or, set, drop}
 use lib.Seq.{drop-cons}
-use mir.Syntax.{w64}
-use mir.Val.{Val}
 use Rattle.bits.specs.Marks.{clear_of, count_of, lowest_of, stands_from}
 use Rattle.bits.proofs.Digits.{ones-all}
 use Rattle.bits.proofs.Laws.{lowest-here, lowest-there}
-
--- what owning an array of u64 tells of its numbers
-pub number_fits : (m : List ℕ) (us : List Val) → shadow (each ℕ (e_int w64).ty.own m us) → (i : ℕ) → get_or m i 0 < 2 ^ 64
-number_fits [] [] s i = omega arith
-number_fits [] (u ∷ us) s i = absurd s
-number_fits (x ∷ xs) [] s i = absurd s
-number_fits (x ∷ xs) (u ∷ us) s zero = omega arith
-number_fits (x ∷ xs) (u ∷ us) s (suc i) = number_fits xs us s.1 i
 
 -- the four numbers set to 0
 pub clear-four : (m : List ℕ) → length m ≡ 4 → set (set (set (set m 0 0) 1 0) 2 0) 3 0 ≡ clear_of m

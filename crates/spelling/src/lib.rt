@@ -51,6 +51,7 @@ pub fn spell_phase(p: Phase) -> Spelt
 }
 
 // The phase of that number, with the word and the value that it carries; Fresh where no phase has it.
+#[tactic(auto, unfolding(crate::specs::Spelling::read_phase))]
 pub fn read_phase(s: Spelt) -> Phase
     ensures { result ≡ read_phase s }
 {
@@ -95,6 +96,7 @@ pub fn spell_recovery(recovery: Recovery) -> Spelt
 }
 
 // Recovery at that line, with the word and the value that it has chosen; idle where there is no such line.
+#[tactic(auto, unfolding(crate::specs::Spelling::read_recovery))]
 pub fn read_recovery(s: Spelt) -> Recovery
     ensures { result ≡ read_recovery s }
 {
