@@ -4,7 +4,7 @@
 
 #![tactic(auto)]
 
-#[derive(Drop)]
+#[derive(Clone, Copy)]
 pub enum Phase {
     Fresh,
     Ready,
@@ -27,7 +27,7 @@ pub enum Phase {
 }
 
 // What the checks and a crash ask of a phase.
-#[derive(Drop)]
+#[derive(Clone, Copy)]
 pub enum Stage {
     Fresh,
     Ready,
@@ -36,14 +36,14 @@ pub enum Stage {
 }
 
 // A transaction's record.
-#[derive(Drop)]
+#[derive(Clone, Copy)]
 pub struct Tx {
     pub loc: u32,
     pub phase: Phase,
 }
 
 // Where recovery stands; at C3 to C5, and only there, with the word and the value chosen.
-#[derive(Drop)]
+#[derive(Clone, Copy)]
 pub enum Recovery {
     Idle,
     C1,
@@ -55,7 +55,7 @@ pub enum Recovery {
 }
 
 // What is asked of a transaction's record.
-#[derive(Drop)]
+#[derive(Clone, Copy)]
 pub enum Ask {
     Begin,
     Read { word: u32 },
@@ -65,7 +65,7 @@ pub enum Ask {
 }
 
 // What is asked of the store and of no record.
-#[derive(Drop)]
+#[derive(Clone, Copy)]
 pub enum Sys {
     Flush { word: u32 },
     Crash,
@@ -74,14 +74,14 @@ pub enum Sys {
 }
 
 // A call: on a record, or on none.
-#[derive(Drop)]
+#[derive(Clone, Copy)]
 pub enum Call {
     On { id: u64, ask: Ask },
     Of { sys: Sys },
 }
 
 // What a call answers; specs/Table.antt lists the number and the value of each case.
-#[derive(Drop)]
+#[derive(Clone, Copy)]
 pub enum Answer {
     Taken { lines: u64 },
     Begun,

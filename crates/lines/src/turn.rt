@@ -5,7 +5,7 @@ ghost use Rattle.lines.specs.Turning.{turn_of};
 use dtml::{Answer, Phase, Tx};
 
 // It was refused, and the record stays as it came; or it went, and this is the record.
-#[derive(Drop)]
+#[derive(Clone, Copy)]
 pub enum Turn {
     Refused { answer: Answer },
     Went { answer: Answer, tx: Tx },

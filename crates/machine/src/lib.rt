@@ -14,7 +14,7 @@ use dtml::{Answer, Call, Recovery, Tx};
 use marks::Marks;
 
 // What the store holds beside its rows.
-#[derive(Drop)]
+#[derive(Clone, Copy)]
 pub struct Held {
     pub marks: Marks,
     pub glb: u32,
@@ -22,7 +22,7 @@ pub struct Held {
 }
 
 // What a call gives back.
-#[derive(Drop)]
+#[derive(Clone, Copy)]
 pub struct After {
     pub answer: Answer,
     pub held: Held,

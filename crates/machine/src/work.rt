@@ -36,7 +36,7 @@ pub fn slot(call: Call) -> usize
 }
 
 // What a call leaves beside the word rows: its record, what it gives back, and whether it was a crash, which reaches every record.
-#[derive(Drop)]
+#[derive(Clone, Copy)]
 pub struct Worked {
     pub after: After,
     pub tx: Tx,
@@ -119,7 +119,7 @@ pub fn work(
 }
 
 // What is left of making fresh beside the word rows: what is given back, and whether the records are to be made fresh.
-#[derive(Drop)]
+#[derive(Clone, Copy)]
 pub struct Made {
     pub after: After,
     pub made: bool,

@@ -7,14 +7,14 @@ use crate::trace::seen_at;
 use crate::{Item, Seen};
 
 // The reader of a trace: the bytes that it reads and its place.
-#[derive(Drop)]
+#[derive(Clone, Copy)]
 pub struct Reader<'a> {
     pub trace: &'a [u8],
     pub at: usize,
 }
 
 // What stood at a reader's place, and the reader moved on past it.
-#[derive(Drop)]
+#[derive(Clone, Copy)]
 pub struct Read<'a> {
     pub item: Item,
     pub reader: Reader<'a>,

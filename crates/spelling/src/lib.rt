@@ -8,7 +8,7 @@ ghost use Rattle.spelling.specs.Spelling.{spell_phase, read_phase, spell_recover
 use dtml::{Phase, Recovery};
 
 // What a phase or recovery is spelled by: its number, its word and its value, 0 where it has none.
-#[derive(Drop)]
+#[derive(Clone, Copy)]
 pub struct Spelt {
     pub number: u32,
     pub word: u32,

@@ -25,7 +25,7 @@ use parts::words::flush_word;
 
 // What a call gives back: it was refused; or it was a flush, which leaves recovery where it stands; or a crash, which leaves it at C1 and reaches every
 // record (`crash_tx`); or so many recovery lines.
-#[derive(Drop)]
+#[derive(Clone, Copy)]
 pub enum Event {
     Refused {
         answer: Answer,

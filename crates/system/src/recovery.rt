@@ -14,7 +14,7 @@ use parts::stages::not_idle;
 use parts::words::flush_word;
 
 // What a line of recovery, or some, leave beside the memory.
-#[derive(Drop)]
+#[derive(Clone, Copy)]
 pub(crate) struct RecoveryTurn {
     pub answer: Answer,
     pub recovery: Recovery,

@@ -117,7 +117,7 @@ fn crash_txs(txs: [Tx; 64]) -> [Tx; 64]
 }
 
 // How far a replay has come: the count, the numbers of the T line, and how long the text is. It goes on, or the trace has ended, or a record is refused.
-#[derive(Drop)]
+#[derive(Clone, Copy)]
 pub(crate) struct Course {
     pub glb: u32,
     pub totals: Totals,
@@ -128,7 +128,7 @@ pub(crate) struct Course {
 
 // What one item leaves: how far the replay has come; the record that was handed over, if it was changed; recovery, if it was changed; and whether a crash
 // reached every record.
-#[derive(Drop)]
+#[derive(Clone, Copy)]
 pub(crate) struct Moved {
     pub course: Course,
     pub tx: Tx,
@@ -139,7 +139,7 @@ pub(crate) struct Moved {
 }
 
 // What all items leave.
-#[derive(Drop)]
+#[derive(Clone, Copy)]
 pub(crate) struct Reached {
     pub course: Course,
     pub recovery: Recovery,
