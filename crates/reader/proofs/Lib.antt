@@ -1,3 +1,2 @@
 mod Places
-pub mod Reading
 pub mod Scripts
