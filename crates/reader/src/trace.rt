@@ -16,6 +16,7 @@ fn refused(number: u64) -> Header
 }
 
 // A refusal, or N: the document's checks in their order.
+#[tactic(auto, unfolding(crate::specs::Said::header_of))]
 pub fn header(trace: &[u8]) -> Header
     ensures { result ≡ header_of trace.now }
 {

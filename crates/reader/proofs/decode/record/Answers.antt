@@ -38,8 +38,8 @@ returns-in-8 c = rw c.in-8.is c.bare-in-8.ensures
 
 pub returns-in_default : goal.returns-in_default
 unfolding of_kind
-returns-in_default c = 
-    let not8 = c.in_default.rest in
+returns-in_default c =
+    let not8 = c.in_default.in_default-own.rest in
     let not7 = not8.0 in
     let not6 = not7.0 in
     let not5 = not6.0 in
