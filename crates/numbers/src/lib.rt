@@ -4,14 +4,14 @@
 #![tactic(auto)]
 
 mod held;
-mod records;
+mod tx_row;
 
 ghost use Rattle.std.specs.Prelude.{◌≡◌, []};
 ghost use Rattle.dtml.specs.Table.{reply};
 ghost use Rattle.numbers.specs.Numbers.{rows, call_numbers, fresh_numbers, given, valued, gives};
 
 use crate::held::{misspelt, put_held, read_held};
-use crate::records::{crash_if, put_tx, read_tx, unfit_records};
+use crate::tx_row::{crash_if, put_tx, read_tx, unfit_records};
 use dtml::{Answer, Call};
 use machine::work::{renew, slot, work, zero};
 use parts::answer::{number, value as value_of};
