@@ -7,6 +7,7 @@ use mathlib.Core.Bool.{Bool, true, false}
 use mathlib.Core.List.{List, [], ◌∷◌}
 use lib.ListN.{length, set, drop}
 use lib.Dec.{eqb, leb}
+use lib.Seq.{set-get_or}
 use Rattle.bits.specs.Marks.{pick, count_of}
 use Rattle.dtml.specs.declared.Answer.{Answer}
 use Rattle.dtml.specs.declared.Ask.{Ask}
@@ -19,6 +20,7 @@ use Rattle.dtml.specs.declared.Sys.{Sys}
 use Rattle.dtml.specs.declared.Tx.{Tx}
 use Rattle.dtml.specs.Table.{Reply, reply}
 use Rattle.dtml.specs.Store.{Memory, memory, Store, store, fresh, record_at, tx}
+use Rattle.dtml.specs.Lines.{crash_txs}
 use Rattle.dtml.specs.Checks.{not_idle}
 use Rattle.dtml.specs.Handed.{Left, turn_left, event_left, call_one, call_system, carry, is_crash, crashed, reach}
 use Rattle.dtml.proofs.Happens.{Counts, Counted, counted-so, refused-so, crash-marks}
@@ -44,9 +46,9 @@ use Rattle.day.proofs.Going.{totals-same, rest_of, Going, going_on, ends_so, pri
 use Rattle.trace.specs.declared.run.Course.{Course}
 use Rattle.trace.specs.declared.run.Moved.{Moved}
 use Rattle.trace.specs.declared.run.Reached.{Reached}
-use Rattle.trace.specs.Turning.{on_course, still_of, Moment, counts, call_moment, Moves, slot_at, turn_of, OneLine, OneLineAt, Brief, BriefAt, stopped_at, Through}
+use Rattle.trace.specs.Turning.{on_course, still_of, Moment, moment_of, counts, call_moment, Moves, slot_at, turn_of, OneLine, OneLineAt, Brief, BriefAt, stopped_at, Through}
 
-true-not : {A : Type 0} → true ≡ false → A
+pub true-not : {A : Type 0} → true ≡ false → A
 true-not e = let z : ◌≡◌ {A = ℕ} 0 1 = cc in absurd (omega arith)
 
 -- ---- what a call leaves
@@ -268,6 +270,73 @@ module _ {bs : List ℕ} {n : ℕ} {first vol pers old marks out : List ℕ} {ts
     short = text-so n bs first (store m r ts) c.totals at (buffer out c.place) loop.0 c.refusal e small loop.1;
     few = next-record loop;
   }
+
+-- ---- the loop after a turn, by what the turn says to be changed
+
+module _ {bs : List ℕ} {n : ℕ} {first vol pers old marks out vol' pers' old' marks' out' : List ℕ} {ts : List Tx} {at at' i : ℕ} {r : Recovery} (c : Course) {item : Item} (x : Moved)
+    (loop : Looping bs n first vol pers old out marks c.glb r ts c.totals at c.place) (on : c.going ≡ true) (here : item ≡ found (drop at bs)) (there : at' ≡ place_after at item) (slot : i ≡ slot_at item)
+    (says : Moves x (memory vol' pers' old' marks' x.course.glb) out' r (record_at ts i) (turn_of (memory vol pers old marks c.glb) r (record_at ts i) c out item)
+    × BriefAt (memory vol pers old marks c.glb) r (record_at ts i) c item) where
+  -- with such a recovery and such records
+  abbrev pub Onward : Recovery → List Tx → Type 0
+  Onward v rows =
+      Looping bs n first vol' pers' old' out' marks' x.course.glb v rows x.course.totals at' x.course.place
+      × (x.course.going ≡ false → (x.course.refusal < 100) × (rest_of bs at' ≡ script [] x.course.refusal))
+      × (measure bs at' x.course.going < measure bs at c.going)
+
+  abbrev SaysAt : ℕ → Type 0
+  SaysAt k = Moves x (memory vol' pers' old' marks' x.course.glb) out' r (record_at ts k) (turn_of (memory vol pers old marks c.glb) r (record_at ts k) c out item)
+      × BriefAt (memory vol pers old marks c.glb) r (record_at ts k) c item
+
+  abbrev moment-at : ℕ → Moment
+  moment-at k = moment_of x (memory vol' pers' old' marks' x.course.glb) out' r (record_at ts k)
+
+  -- the records, of which the one handed over is put back, and a crash reaches all
+  abbrev put-at : ℕ → List Tx
+  put-at k = reach x.crashed (set ts k (pick x.turned x.tx (record_at ts k)))
+
+  abbrev StandsAt : ℕ → ℕ → Type 0
+  StandsAt k to = Stands bs n first (moment-at k) (put-at k) to × (measure bs to x.course.going < measure bs at c.going)
+
+  stands : StandsAt i at'
+  stands =
+      let e = subst SaysAt slot says in
+      let p = subst (After c loop item) (sym e.0.so) (moves c loop item here e.1) in
+      let q : StandsAt (slot_at item) (place_after at item) = (p.0, subst (λ (b : Bool). measure bs (place_after at item) x.course.going < measure bs at b) (sym on) p.1) in
+      subst (λ (k : ℕ). StandsAt k at') (sym slot) (subst (StandsAt (slot_at item)) (sym there) q)
+
+  onward : (v : Recovery) → v ≡ pick x.recovers x.recovery r → (rows : List Tx) → rows ≡ put-at i → Onward v rows
+  onward v e rows q = (rw (e, q) (stands.0.going, stands.0.short), stands.0.over, stands.1)
+
+  abbrev back-with : Bool → Bool → List Tx
+  back-with crashed turned = reach crashed (set ts i (pick turned x.tx (record_at ts i)))
+
+  unless-turned : x.turned ≡ false → reach x.crashed ts ≡ put-at i
+  unless-turned off = ap (reach x.crashed) (sym (set-get_or ts i (tx 0 Fresh))) ∙ sym (ap (back-with x.crashed) off)
+
+  when-recovers : x.recovers ≡ true → x.recovery ≡ pick x.recovers x.recovery r
+  when-recovers so = sym (ap (λ (b : Bool). pick b x.recovery r) so)
+
+  unless-recovers : x.recovers ≡ false → r ≡ pick x.recovers x.recovery r
+  unless-recovers so = sym (ap (λ (b : Bool). pick b x.recovery r) so)
+
+  -- the record
+  pub turned-on : x.turned ≡ true → Onward r (set ts i x.tx)
+  turned-on turned =
+      let recovers = says.0.turned-only turned in
+      onward r (unless-recovers recovers) (set ts i x.tx) (sym (ap (λ (b : Bool). back-with b x.turned) (says.0.not-recovers recovers) ∙ ap (back-with false) turned))
+
+  -- recovery, and a crash reached the records
+  pub crashed-on : x.turned ≡ false → x.recovers ≡ true → x.crashed ≡ true → {rows : List Tx} → rows ≡ crash_txs ts → Onward x.recovery rows
+  crashed-on off recovers crashed {rows} e = onward x.recovery (when-recovers recovers) rows (e ∙ sym (ap (λ (b : Bool). reach b ts) crashed) ∙ unless-turned off)
+
+  -- recovery alone
+  pub recovering-on : x.turned ≡ false → x.recovers ≡ true → x.crashed ≡ false → Onward x.recovery ts
+  recovering-on off recovers whole = onward x.recovery (when-recovers recovers) ts (sym (ap (λ (b : Bool). reach b ts) whole) ∙ unless-turned off)
+
+  -- neither
+  pub still-on : x.turned ≡ false → x.recovers ≡ false → Onward r ts
+  still-on off still = onward r (unless-recovers still) ts (sym (ap (λ (b : Bool). reach b ts) (says.0.not-recovers still)) ∙ unless-turned off)
 
 -- ---- before and after the loop
 
