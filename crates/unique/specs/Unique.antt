@@ -12,19 +12,19 @@ use denote.Exit.{yes}
 use denote.Triple.Entry.{Args, Res}
 use denote.Triple.End.{Fins, all}
 use denote.Triple.Clauses.{Ended, Lasts, at_exit, Clauses}
-use Rattle.marks.proofs as marks
-use Rattle.parts.proofs as parts
-use Rattle.lines.proofs as lines
-use Rattle.system.proofs as system
-use Rattle.records.proofs as records
-use Rattle.machine.proofs as machine
-use Rattle.spelling.proofs as spelling
-use Rattle.numbers.proofs as numbers
-use Rattle.calls.proofs as calls
-use Rattle.text.proofs as text
-use Rattle.trace.proofs as trace
-use Rattle.host.proofs as host
-use Rattle.reader.proofs as reader
+use Rattle.marks.specs.contracts as marks
+use Rattle.parts.specs.contracts as parts
+use Rattle.lines.specs.contracts as lines
+use Rattle.system.specs.contracts as system
+use Rattle.records.specs.contracts as records
+use Rattle.machine.specs.contracts as machine
+use Rattle.spelling.specs.contracts as spelling
+use Rattle.numbers.specs.contracts as numbers
+use Rattle.calls.specs.contracts as calls
+use Rattle.text.specs.contracts as text
+use Rattle.trace.specs.contracts as trace
+use Rattle.host.specs.contracts as host
+use Rattle.reader.specs.contracts as reader
 
 -- the outcome of a call on the arguments a: what is returned, and for each parameter that is lent as `&mut` the value that it is left with
 abbrev pub Outcome : (T : Ended) (κs : Lfts T.signature.lifetimes) → Args T.signature κs → Type 0
@@ -49,76 +49,76 @@ module _ {M : Type 1} {𝓤 : Ura M} where
 -- every public function of every crate
 pub record UniqueOutcomes {M : Type 1} (𝓤 : Ura M) : Type 2 where
   -- the marks
-  pub marks-mark : Settled marks.mark.ended (marks.mark.clauses 𝓤)
-  pub marks-unmark : Settled marks.unmark.ended (marks.unmark.clauses 𝓤)
-  pub marks-clear : Settled marks.clear.ended (marks.clear.clauses 𝓤)
-  pub marks-is-marked : Settled marks.is_marked.ended (marks.is_marked.clauses 𝓤)
-  pub marks-count : Settled marks.count.ended (marks.count.clauses 𝓤)
-  pub marks-lowest : Settled marks.lowest.ended (marks.lowest.clauses 𝓤)
-  pub marks-stands-from : Settled marks.stands_from.ended (marks.stands_from.clauses 𝓤)
+  pub marks-mark : Settled marks.mark.ended (marks.mark.clauses {𝓤 = 𝓤})
+  pub marks-unmark : Settled marks.unmark.ended (marks.unmark.clauses {𝓤 = 𝓤})
+  pub marks-clear : Settled marks.clear.ended (marks.clear.clauses {𝓤 = 𝓤})
+  pub marks-is-marked : Settled marks.is_marked.ended (marks.is_marked.clauses {𝓤 = 𝓤})
+  pub marks-count : Settled marks.count.ended (marks.count.clauses {𝓤 = 𝓤})
+  pub marks-lowest : Settled marks.lowest.ended (marks.lowest.clauses {𝓤 = 𝓤})
+  pub marks-stands-from : Settled marks.stands_from.ended (marks.stands_from.clauses {𝓤 = 𝓤})
   -- what the calls share
-  pub parts-stage : Settled parts.stages.stage.ended (parts.stages.stage.clauses 𝓤)
-  pub parts-is-fresh : Settled parts.stages.is_fresh.ended (parts.stages.is_fresh.clauses 𝓤)
-  pub parts-is-ready : Settled parts.stages.is_ready.ended (parts.stages.is_ready.clauses 𝓤)
-  pub parts-is-live : Settled parts.stages.is_live.ended (parts.stages.is_live.clauses 𝓤)
-  pub parts-not-idle : Settled parts.stages.not_idle.ended (parts.stages.not_idle.clauses 𝓤)
-  pub parts-number : Settled parts.answer.number.ended (parts.answer.number.clauses 𝓤)
-  pub parts-value : Settled parts.answer.value.ended (parts.answer.value.clauses 𝓤)
-  pub parts-unfit-rows : Settled parts.fit.unfit_rows.ended (parts.fit.unfit_rows.clauses 𝓤)
-  pub parts-phase-past : Settled parts.fit.phase_past.ended (parts.fit.phase_past.clauses 𝓤)
-  pub parts-unfit-recovery : Settled parts.fit.unfit_recovery.ended (parts.fit.unfit_recovery.clauses 𝓤)
-  pub parts-unfit-tx : Settled parts.fit.unfit_tx.ended (parts.fit.unfit_tx.clauses 𝓤)
-  pub parts-unfit-idle : Settled parts.fit.unfit_idle.ended (parts.fit.unfit_idle.clauses 𝓤)
-  pub parts-unfit-beside : Settled parts.fit.unfit_beside.ended (parts.fit.unfit_beside.clauses 𝓤)
-  pub parts-unfit-one : Settled parts.fit.unfit_one.ended (parts.fit.unfit_one.clauses 𝓤)
-  pub parts-flush-word : Settled parts.words.flush_word.ended (parts.words.flush_word.clauses 𝓤)
+  pub parts-stage : Settled parts.stages.stage.ended (parts.stages.stage.clauses {𝓤 = 𝓤})
+  pub parts-is-fresh : Settled parts.stages.is_fresh.ended (parts.stages.is_fresh.clauses {𝓤 = 𝓤})
+  pub parts-is-ready : Settled parts.stages.is_ready.ended (parts.stages.is_ready.clauses {𝓤 = 𝓤})
+  pub parts-is-live : Settled parts.stages.is_live.ended (parts.stages.is_live.clauses {𝓤 = 𝓤})
+  pub parts-not-idle : Settled parts.stages.not_idle.ended (parts.stages.not_idle.clauses {𝓤 = 𝓤})
+  pub parts-number : Settled parts.answer.number.ended (parts.answer.number.clauses {𝓤 = 𝓤})
+  pub parts-value : Settled parts.answer.value.ended (parts.answer.value.clauses {𝓤 = 𝓤})
+  pub parts-unfit-rows : Settled parts.fit.unfit_rows.ended (parts.fit.unfit_rows.clauses {𝓤 = 𝓤})
+  pub parts-phase-past : Settled parts.fit.phase_past.ended (parts.fit.phase_past.clauses {𝓤 = 𝓤})
+  pub parts-unfit-recovery : Settled parts.fit.unfit_recovery.ended (parts.fit.unfit_recovery.clauses {𝓤 = 𝓤})
+  pub parts-unfit-tx : Settled parts.fit.unfit_tx.ended (parts.fit.unfit_tx.clauses {𝓤 = 𝓤})
+  pub parts-unfit-idle : Settled parts.fit.unfit_idle.ended (parts.fit.unfit_idle.clauses {𝓤 = 𝓤})
+  pub parts-unfit-beside : Settled parts.fit.unfit_beside.ended (parts.fit.unfit_beside.clauses {𝓤 = 𝓤})
+  pub parts-unfit-one : Settled parts.fit.unfit_one.ended (parts.fit.unfit_one.clauses {𝓤 = 𝓤})
+  pub parts-flush-word : Settled parts.words.flush_word.ended (parts.words.flush_word.clauses {𝓤 = 𝓤})
   -- the calls, on what they are handed
-  pub lines-call-one : Settled lines.call_one.ended (lines.call_one.clauses 𝓤)
-  pub system-call-system : Settled system.call_system.ended (system.call_system.clauses 𝓤)
-  pub system-crash-tx : Settled system.crash_tx.ended (system.crash_tx.clauses 𝓤)
+  pub lines-call-one : Settled lines.call_one.ended (lines.call_one.clauses {𝓤 = 𝓤})
+  pub system-call-system : Settled system.call_system.ended (system.call_system.clauses {𝓤 = 𝓤})
+  pub system-crash-tx : Settled system.crash_tx.ended (system.crash_tx.clauses {𝓤 = 𝓤})
   -- the calls, on a whole store
-  pub records-get : Settled records.get.ended (records.get.clauses 𝓤)
-  pub records-put : Settled records.put.ended (records.put.clauses 𝓤)
-  pub records-unfit : Settled records.unfit.ended (records.unfit.clauses 𝓤)
-  pub records-crash-if : Settled records.crash_if.ended (records.crash_if.clauses 𝓤)
-  pub records-store-if : Settled records.store_if.ended (records.store_if.clauses 𝓤)
-  pub machine-place-of : Settled machine.work.place_of.ended (machine.work.place_of.clauses 𝓤)
-  pub machine-slot : Settled machine.work.slot.ended (machine.work.slot.clauses 𝓤)
-  pub machine-work : Settled machine.work.work.ended (machine.work.work.clauses 𝓤)
-  pub machine-zero : Settled machine.work.zero.ended (machine.work.zero.clauses 𝓤)
-  pub machine-renew : Settled machine.work.renew.ended (machine.work.renew.clauses 𝓤)
-  pub machine-blank : Settled machine.work.blank.ended (machine.work.blank.clauses 𝓤)
-  pub machine-make-fresh : Settled machine.make_fresh.ended (machine.make_fresh.clauses 𝓤)
-  pub machine-call : Settled machine.call.ended (machine.call.clauses 𝓤)
+  pub records-get : Settled records.get.ended (records.get.clauses {𝓤 = 𝓤})
+  pub records-put : Settled records.put.ended (records.put.clauses {𝓤 = 𝓤})
+  pub records-unfit : Settled records.unfit.ended (records.unfit.clauses {𝓤 = 𝓤})
+  pub records-crash-if : Settled records.crash_if.ended (records.crash_if.clauses {𝓤 = 𝓤})
+  pub records-store-if : Settled records.store_if.ended (records.store_if.clauses {𝓤 = 𝓤})
+  pub machine-place-of : Settled machine.work.place_of.ended (machine.work.place_of.clauses {𝓤 = 𝓤})
+  pub machine-slot : Settled machine.work.slot.ended (machine.work.slot.clauses {𝓤 = 𝓤})
+  pub machine-work : Settled machine.work.work.ended (machine.work.work.clauses {𝓤 = 𝓤})
+  pub machine-zero : Settled machine.work.zero.ended (machine.work.zero.clauses {𝓤 = 𝓤})
+  pub machine-renew : Settled machine.work.renew.ended (machine.work.renew.clauses {𝓤 = 𝓤})
+  pub machine-blank : Settled machine.work.blank.ended (machine.work.blank.clauses {𝓤 = 𝓤})
+  pub machine-make-fresh : Settled machine.make_fresh.ended (machine.make_fresh.clauses {𝓤 = 𝓤})
+  pub machine-call : Settled machine.call.ended (machine.call.clauses {𝓤 = 𝓤})
   -- the calls, on a store that is spelled as numbers
-  pub spelling-spelt-by : Settled spelling.spelt_by.ended (spelling.spelt_by.clauses 𝓤)
-  pub spelling-spell-phase : Settled spelling.spell_phase.ended (spelling.spell_phase.clauses 𝓤)
-  pub spelling-read-phase : Settled spelling.read_phase.ended (spelling.read_phase.clauses 𝓤)
-  pub spelling-spell-recovery : Settled spelling.spell_recovery.ended (spelling.spell_recovery.clauses 𝓤)
-  pub spelling-read-recovery : Settled spelling.read_recovery.ended (spelling.read_recovery.clauses 𝓤)
-  pub spelling-same-spelling : Settled spelling.same_spelling.ended (spelling.same_spelling.clauses 𝓤)
-  pub numbers-call : Settled numbers.call.ended (numbers.call.clauses 𝓤)
-  pub numbers-asked : Settled numbers.asked.ended (numbers.asked.clauses 𝓤)
-  pub numbers-make-fresh : Settled numbers.make_fresh.ended (numbers.make_fresh.clauses 𝓤)
-  pub calls-register-begin : Settled calls.register_begin.ended (calls.register_begin.clauses 𝓤)
-  pub calls-register-read : Settled calls.register_read.ended (calls.register_read.clauses 𝓤)
-  pub calls-register-write : Settled calls.register_write.ended (calls.register_write.clauses 𝓤)
-  pub calls-register-commit : Settled calls.register_commit.ended (calls.register_commit.clauses 𝓤)
-  pub calls-register-step : Settled calls.register_step.ended (calls.register_step.clauses 𝓤)
-  pub calls-register-make-fresh : Settled calls.events.register_make_fresh.ended (calls.events.register_make_fresh.clauses 𝓤)
-  pub calls-register-flush : Settled calls.events.register_flush.ended (calls.events.register_flush.clauses 𝓤)
-  pub calls-register-crash : Settled calls.events.register_crash.ended (calls.events.register_crash.clauses 𝓤)
-  pub calls-register-recover : Settled calls.events.register_recover.ended (calls.events.register_recover.clauses 𝓤)
-  pub calls-register-recover-up-to : Settled calls.events.register_recover_up_to.ended (calls.events.register_recover_up_to.clauses 𝓤)
+  pub spelling-spelt-by : Settled spelling.spelt_by.ended (spelling.spelt_by.clauses {𝓤 = 𝓤})
+  pub spelling-spell-phase : Settled spelling.spell_phase.ended (spelling.spell_phase.clauses {𝓤 = 𝓤})
+  pub spelling-read-phase : Settled spelling.read_phase.ended (spelling.read_phase.clauses {𝓤 = 𝓤})
+  pub spelling-spell-recovery : Settled spelling.spell_recovery.ended (spelling.spell_recovery.clauses {𝓤 = 𝓤})
+  pub spelling-read-recovery : Settled spelling.read_recovery.ended (spelling.read_recovery.clauses {𝓤 = 𝓤})
+  pub spelling-same-spelling : Settled spelling.same_spelling.ended (spelling.same_spelling.clauses {𝓤 = 𝓤})
+  pub numbers-call : Settled numbers.call.ended (numbers.call.clauses {𝓤 = 𝓤})
+  pub numbers-asked : Settled numbers.asked.ended (numbers.asked.clauses {𝓤 = 𝓤})
+  pub numbers-make-fresh : Settled numbers.make_fresh.ended (numbers.make_fresh.clauses {𝓤 = 𝓤})
+  pub calls-register-begin : Settled calls.register_begin.ended (calls.register_begin.clauses {𝓤 = 𝓤})
+  pub calls-register-read : Settled calls.register_read.ended (calls.register_read.clauses {𝓤 = 𝓤})
+  pub calls-register-write : Settled calls.register_write.ended (calls.register_write.clauses {𝓤 = 𝓤})
+  pub calls-register-commit : Settled calls.register_commit.ended (calls.register_commit.clauses {𝓤 = 𝓤})
+  pub calls-register-step : Settled calls.register_step.ended (calls.register_step.clauses {𝓤 = 𝓤})
+  pub calls-register-make-fresh : Settled calls.events.register_make_fresh.ended (calls.events.register_make_fresh.clauses {𝓤 = 𝓤})
+  pub calls-register-flush : Settled calls.events.register_flush.ended (calls.events.register_flush.clauses {𝓤 = 𝓤})
+  pub calls-register-crash : Settled calls.events.register_crash.ended (calls.events.register_crash.clauses {𝓤 = 𝓤})
+  pub calls-register-recover : Settled calls.events.register_recover.ended (calls.events.register_recover.clauses {𝓤 = 𝓤})
+  pub calls-register-recover-up-to : Settled calls.events.register_recover_up_to.ended (calls.events.register_recover_up_to.clauses {𝓤 = 𝓤})
   -- the trace
-  pub text-put-byte : Settled text.put_byte.ended (text.put_byte.clauses 𝓤)
-  pub text-put-decimal : Settled text.put_decimal.ended (text.put_decimal.clauses 𝓤)
-  pub text-put-answer : Settled text.put_answer.ended (text.put_answer.clauses 𝓤)
-  pub text-put-stop : Settled text.put_stop.ended (text.put_stop.clauses 𝓤)
-  pub text-put-totals : Settled text.put_totals.ended (text.put_totals.clauses 𝓤)
-  pub trace-replay-beside : Settled trace.replay_beside.ended (trace.replay_beside.clauses 𝓤)
-  pub trace-replay : Settled trace.replay.ended (trace.replay.clauses 𝓤)
-  pub host-register-replay : Settled host.register_replay.ended (host.register_replay.clauses 𝓤)
-  pub reader-header : Settled reader.trace.header.ended (reader.trace.header.clauses 𝓤)
-  pub reader-next : Settled reader.place.next.ended (reader.place.next.clauses 𝓤)
-  pub reader-read-at : Settled reader.place.read_at.ended (reader.place.read_at.clauses 𝓤)
+  pub text-put-byte : Settled text.put_byte.ended (text.put_byte.clauses {𝓤 = 𝓤})
+  pub text-put-decimal : Settled text.put_decimal.ended (text.put_decimal.clauses {𝓤 = 𝓤})
+  pub text-put-answer : Settled text.put_answer.ended (text.put_answer.clauses {𝓤 = 𝓤})
+  pub text-put-stop : Settled text.put_stop.ended (text.put_stop.clauses {𝓤 = 𝓤})
+  pub text-put-totals : Settled text.put_totals.ended (text.put_totals.clauses {𝓤 = 𝓤})
+  pub trace-replay-beside : Settled trace.replay_beside.ended (trace.replay_beside.clauses {𝓤 = 𝓤})
+  pub trace-replay : Settled trace.replay.ended (trace.replay.clauses {𝓤 = 𝓤})
+  pub host-register-replay : Settled host.register_replay.ended (host.register_replay.clauses {𝓤 = 𝓤})
+  pub reader-header : Settled reader.trace.header.ended (reader.trace.header.clauses {𝓤 = 𝓤})
+  pub reader-next : Settled reader.place.next.ended (reader.place.next.clauses {𝓤 = 𝓤})
+  pub reader-read-at : Settled reader.place.read_at.ended (reader.place.read_at.clauses {𝓤 = 𝓤})
