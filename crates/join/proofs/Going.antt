@@ -1,6 +1,7 @@
 -- The host's loop over plain values: after i calls the rows, what is held and the text are those of the definitions.
 use Prim.Native.Nat.{ℕ, zero, suc, ◌+◌, ◌≤◌, ◌<◌, ◌^◌}
 use mathlib.Core.Path.{◌≡◌, refl, sym, ap, subst, ◌∙◌}
+use native.Mathlib.Numerals.{add-one}
 use native.Mathlib.Omega.{arith}
 use mathlib.Core.Bool.{Bool, true, false}
 use mathlib.Core.List.{List, [], ◌∷◌}
@@ -20,7 +21,8 @@ use Rattle.dtml.specs.Checks.{unfit_rows}
 use Rattle.dtml.specs.Calls.{call, make_fresh}
 use Rattle.machine.specs.declared.Held.{Held}
 use Rattle.machine.specs.declared.After.{After}
-use Rattle.machine.proofs.Caller.{Spelled, Rows, these-rows, Long, store-of, left_as}
+use Rattle.machine.specs.Given.{store_of}
+use Rattle.machine.proofs.Caller.{Rows, these-rows, store-of, left_as}
 use Rattle.text.specs.Buffer.{Buffer, buffer, put, puts}
 use Rattle.join.specs.Join.{asked_at, told, store_at, outcome_at, text_at}
 
@@ -31,14 +33,14 @@ abbrev pub held_at : ℕ → Held
 held_at i = record { marks = (store_at i).mem.marks; glb = (store_at i).mem.glb; recovery = (store_at i).rec }
 
 -- what a call left is the store after i calls
-pub record Left (i : ℕ) (z : Rows) (a : After) : Type 0 where
+pub record Left (i : ℕ) (z : Rows) (h : Held) : Type 0 where
   pub vol : z.vol ≡ (store_at i).mem.vol
   pub pers : z.pers ≡ (store_at i).mem.pers
   pub old : z.old ≡ (store_at i).mem.old
   pub txs : z.txs ≡ (store_at i).txs
-  pub held : a.held ≡ held_at i
+  pub held : h ≡ held_at i
 
-left_so : (i : ℕ) (z : Rows) (a : After) (o : Outcome) → left_as z a ≡ o → o.store ≡ store_at i → Left i z a
+left_so : (i : ℕ) (z : Rows) (a : After) (o : Outcome) → left_as z a ≡ o → o.store ≡ store_at i → Left i z a.held
 left_so i z a o e f =
     let g = ap (λ (x : Outcome). x.store) e ∙ f in
     record {
@@ -49,12 +51,21 @@ left_so i z a o e f =
       held = ap (λ s. record { marks = s.mem.marks; glb = s.mem.glb; recovery = s.rec }) g;
     }
 
+-- the rows, with what is held, are the store after i calls
+pub same-store : (i : ℕ) (z : Rows) (h : Held) → Left i z h → store-of z h ≡ store-of (rows_at i) (held_at i)
+same-store i z h l =
+    ap (λ (v : List ℕ). store_of v z.pers z.old h z.txs) l.vol
+    ∙ ap (λ (p : List ℕ). store_of (rows_at i).vol p z.old h z.txs) l.pers
+    ∙ ap (λ (o : List ℕ). store_of (rows_at i).vol (rows_at i).pers o h z.txs) l.old
+    ∙ ap (λ (ts : List Tx). store_of (rows_at i).vol (rows_at i).pers (rows_at i).old h ts) l.txs
+    ∙ ap (λ (k : Held). store_of (rows_at i).vol (rows_at i).pers (rows_at i).old k (rows_at i).txs) l.held
+
 -- the rows at first, with the records
 abbrev pub zeros-and : List Tx → Rows
 zeros-and ts = these-rows (replicate 4 0) (replicate 4 0) (replicate 4 0) ts
 
 pub made : (z : Rows) (a : After) (h : Held) (xs : List Tx) → xs ≡ replicate 64 (tx 0 Fresh)
-    → left_as z a ≡ make_fresh (store-of (zeros-and xs) h) → Left 0 z a
+    → left_as z a ≡ make_fresh (store-of (zeros-and xs) h) → Left 0 z a.held
 unfolding make_fresh unfit_rows fresh store_at
 made z a h xs x e = left_so 0 z a _ (e ∙ ap (λ (ts : List Tx). make_fresh (store-of (zeros-and ts) h)) x) refl
 
@@ -68,29 +79,23 @@ module _ (i : ℕ) (z : Rows) (a : After) (asked : Call) (is : asked ≡ asked_a
   went : left_as z a ≡ outcome_at i
   went = e ∙ ap (call (store_at i)) is
 
-  pub called : Left (suc i) z a
+  pub called : Left (i + 1) z a.held
   unfolding store_at
-  called = left_so (suc i) z a (outcome_at i) went refl
+  called = left_so (i + 1) z a (outcome_at i) went (ap store_at (sym (add-one i)))
 
   answers : reply a.answer ≡ (outcome_at i).reply
   answers = ap (λ (x : Outcome). x.reply) went
 
-  pub wrote : (out bytes : List ℕ) (at : ℕ) → buffer bytes at ≡ puts (buffer (text_at out i).bytes (text_at out i).at) (told asked (reply a.answer) (rows_at (suc i)).pers)
-      → buffer bytes at ≡ text_at out (suc i)
+  pub wrote : (out old bytes pers : List ℕ) (place at : ℕ) → buffer old place ≡ text_at out i → pers ≡ (store_at (i + 1)).mem.pers
+      → buffer bytes at ≡ puts (buffer old place) (told asked (reply a.answer) pers) → buffer bytes at ≡ text_at out (i + 1)
   unfolding store_at text_at
-  wrote out bytes at f = f ∙ ap (λ (x : Call). puts (text_at out i) (told x (reply a.answer) (rows_at (suc i)).pers)) is
+  wrote out old bytes pers place at before kept f =
+      f
+      ∙ ap (λ (o : Buffer). puts o (told asked (reply a.answer) pers)) before
+      ∙ ap (λ (p : List ℕ). puts (text_at out i) (told asked (reply a.answer) p)) (kept ∙ ap (λ (k : ℕ). (store_at k).mem.pers) (add-one i))
+      ∙ ap (λ (x : Call). puts (text_at out i) (told x (reply a.answer) (rows_at (suc i)).pers)) is
       ∙ ap (λ (r : Reply). puts (text_at out i) (told (asked_at i) r (rows_at (suc i)).pers)) answers
-
--- the rows are as long as the arrays
-abbrev Whole : Rows → Type 0
-Whole z = Long 4 4 4 64 z
-
--- what is known beside the values themselves
-pub record Stands (out : List ℕ) (i : ℕ) : Type 0 where
-  pub long : Whole (rows_at i)
-  pub held : Spelled (held_at i)
-  pub place : (text_at out i).at < 2 ^ 64
-  pub bytes : length (text_at out i).bytes ≡ length out
+      ∙ ap (text_at out) (sym (add-one i))
 
 -- ---- the text ends within the buffer
 put-within : (o : Buffer) (b : ℕ) → o.at ≤ length o.bytes → (put o b).at ≤ length (put o b).bytes
@@ -113,22 +118,3 @@ within out (suc i) = puts-within (text_at out i) _ (within out i)
 
 pub counts-so : (out : List ℕ) (i : ℕ) → IsPrefixLen (text_at out i).at (text_at out i).bytes
 counts-so out i = (within out i, sym (length-take-le (text_at out i).at (text_at out i).bytes (within out i)))
-
--- what is known goes on with the store and the text
-module _ {i : ℕ} {z : Rows} {a : After} (left : Left i z a) where
-  pub long-on : Whole z → Whole (rows_at i)
-  long-on l = record {
-    vol = ap length (sym left.vol) ∙ l.vol;
-    pers = ap length (sym left.pers) ∙ l.pers;
-    old = ap length (sym left.old) ∙ l.old;
-    txs = ap length (sym left.txs) ∙ l.txs;
-  }
-
-  pub stands_on : {out : List ℕ} → Whole z → Spelled a.held → (bytes : List ℕ) (at : ℕ) → buffer bytes at ≡ text_at out i
-      → at < 2 ^ 64 → length bytes ≡ length out → Stands out i
-  stands_on l h bytes at e fits kept = record {
-    long = long-on l;
-    held = subst Spelled left.held h;
-    place = subst (λ (x : Buffer). x.at < 2 ^ 64) e fits;
-    bytes = ap (λ (x : Buffer). length x.bytes) (sym e) ∙ kept;
-  }

@@ -1,3 +1,2 @@
 mod Texts
-mod Lending
 mod Going

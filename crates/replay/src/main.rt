@@ -42,16 +42,16 @@ fn report(trace: &[u8], out: &mut [u8]) -> usize
 }
 
 // Room for any text.
-fn room() -> [u8; 655438]
-    ensures { 655438 ≡ length result }
+fn room<const N: usize>() -> [u8; N]
+    ensures { N ≡ length result }
 {
-    [0; 655438]
+    [0; N]
 }
 
 fn main() {
     let mut bytes = [0u8; 65537];
     let got = io::read_full(STDIN_FILENO, &mut bytes);
-    let mut text = room();
+    let mut text = room::<655438>();
     let length = report(&bytes[..got], &mut text);
     io::write_all(STDOUT_FILENO, &text[..length]);
 }
