@@ -7,7 +7,7 @@ use mathlib.Core.Option.{Option, none, some as found}
 use mathlib.Core.List.{List, [], ◌∷◌}
 use lib.Dec.{T, ltb, lit<}
 use seplogic.Ra.Ura.{Ura}
-use seplogic.Ra.TreeShare.{full_share}
+use base.Fraction.{full_share}
 use mir.Syntax.{Sym, Tys, ty_struct, Ty, Name, Lifetime, Mutability, Place, Opd as Operand, Body, mut, w64, ty_ref, place, field, deref, copy, int, addr_of, aggregate, seq, assign, call}
 use mir.Val.{Val, vint, vbool, vptr, vstruct, Vals, has_ty}
 use mir.Fields.{get_v}

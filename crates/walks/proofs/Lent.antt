@@ -7,7 +7,7 @@ use mathlib.Core.List.{List, [], ◌∷◌}
 use lib.ListN.{length, set}
 use lib.Dec.{T, lit<}
 use seplogic.Ra.Ura.{Ura}
-use seplogic.Ra.TreeShare.{full_share}
+use base.Fraction.{full_share}
 use mir.Syntax.{Mutability, Ty, named, ty_ref, ty_array, copy, place, deref, rv_opd, seq, assign, Body}
 use mir.Val.{Val, vptr, has_ty, WT}
 use base.Logic.{SProp, ent, sep, wand, ex, ex_i, guard, via, guard_i, mono_l, fst∗, apply∗}
