@@ -90,8 +90,8 @@ slice-ok m b o n room = (tt, (tt, (record { fits = room.0 }, tt)))
 abbrev pub records : Share → List Tx → ℕ → ℕ → Fml
 records q ys b o = row R.the_row q ys b o
 
--- the reference as `&mut`, when its row is zs
 module _ (b o : ℕ) (γ : GName) where
+  -- the reference as `&mut`, when its row is zs
   abbrev pub mut_ref : List Tx → MutBor (List Tx)
   mut_ref zs = record { ref_ptr = (b, o); ghost_name = γ; now = zs }
 
@@ -103,8 +103,8 @@ module _ (b o : ℕ) (γ : GName) where
   abbrev pub Closes : Lft → Share → List Tx → Fml
   Closes κ q ys = own.Closes R.the_row (named 0) κ b o γ q ys
 
--- the reference as `&`
 module _ (b o : ℕ) where
+  -- the reference as `&`
   abbrev pub ref : List Tx → Bor (List Tx)
   ref zs = record { ref_ptr = (b, o); now = zs }
 
