@@ -7,8 +7,8 @@ use mathlib.Core.Option.{Option, none, some as found}
 use mathlib.Core.List.{List, [], ◌∷◌}
 use lib.Dec.{T, ltb, lit<}
 use seplogic.Ra.Ura.{Ura}
-use seplogic.Ra.TreeShare.{full_share}
-use mir.Syntax.{Sym, Tys, ty_struct, Ty, Name, Lifetime, Mutability, Place, Opd as Operand, Body, mut, w64, ty_ref, place, field, deref, copy, int, addr_of, aggregate, seq, assign, call}
+use base.Fraction.{full_share}
+use mir.Syntax.{Sym, Tys, ty_struct, Ty, Callee as Called, Lifetime, Mutability, Place, Opd as Operand, Body, mut, w64, ty_ref, place, field, deref, copy, int, addr_of, aggregate, seq, assign, call}
 use mir.Val.{Val, vint, vbool, vptr, vstruct, Vals, has_ty}
 use mir.Fields.{get_v}
 use base.Logic.{SProp, ent, sep, ex, guard, emp, id⊢, via, mono∗, emp∗}
@@ -45,7 +45,7 @@ pub record Comes {M : Type 1} {𝓤 : Ura M} (𝓛 : Logic 𝓤) (run : Fun 𝓤
 -- the step: the operands are read behind the head
 pub comes : {M : Type 1} {𝓤 : Ura M} {𝓛 : Logic 𝓤} {K : Type 0} {Γ : List (Item 𝓤)} {E : Env 𝓤 𝓛.H} {C : Calls 𝓤 𝓛.H}
     {Λ : Loops 𝓤 𝓛.H} {q : Post 𝓤 𝓛.H}
-    → K → FmC 𝓤 𝓛.H 𝓛.laws C → {f : Name} {xs : List Operand} {d : Place} {rest : Body} {F : Item 𝓤} {vs : List Val}
+    → K → FmC 𝓤 𝓛.H 𝓛.laws C → {f : Called} {xs : List Operand} {d : Place} {rest : Body} {F : Item 𝓤} {vs : List Val}
     {X : Type 0} {val : X → Val} {φ : X → Type 0} {B : X → Item 𝓤}
     → Comes 𝓛 (C f) F vs X val φ B → ((i : Item 𝓤) → Opds K 𝓛 (i ∷ Γ) E xs vs) → ((x : X) → φ x → Seq K 𝓛 (B x ∷ Γ) (lands C Λ E d (val x) rest q))
     → Seq K 𝓛 (F ∷ Γ) (runs C Λ E (seq (call f xs d) rest) q)
@@ -145,7 +145,7 @@ module _ {M : Type 1} {𝓤 : Ura M} {𝓛 : Logic 𝓤} {K : Type 0} {Γ : List
 pub record Passed {M : Type 1} {𝓤 : Ura M} (𝓛 : Logic 𝓤) (R : RattleType) : Type 1 where
   pub it : R.Denot
   pub value : Val
-  pub made : ent 𝓤 (emp 𝓤) (sem 𝓛 (R.own it (value ∷ [])))
+  pub made : ent 𝓤 (emp 𝓤) (sem 𝓛 (R.own_val it (value ∷ [])))
 
 module _ (n : ℕ) where
   abbrev pub slots : List RattleType → List (Slot n)
@@ -249,7 +249,7 @@ module _ {M : Type 1} {𝓤 : Ura M} (𝓛 : Logic 𝓤) (T : Ended) (Ψ : (κs 
 
     pub hears : ent 𝓤 (agreed.pre y) (run (agreed.args y) (λ v. mean 𝓛 (Heard v)))
     hears = via 𝓤 _ (met y) (fm→mono 𝓤 (run (agreed.args y)) (fm (agreed.args y)) _ _ (λ v.
-        qed 𝓛 (later (some (λ (r : R.Denot). (raw (alive 𝓛 T.signature κs y.0.1) ⊛ ‵ (R.own r (v ∷ [])))
+        qed 𝓛 (later (some (λ (r : R.Denot). (raw (alive 𝓛 T.signature κs y.0.1) ⊛ ‵ (R.own_val r (v ∷ [])))
         ⊛ some (λ (ws : Lasts T κs a). ‵ (lasts T κs a ws) ⊛ raw (fact 𝓤 (Φ κs a r (at_exit T κs a ws)))))) ∷ []) ∵
         updating ! $ await ! tt $ pick ! (λ r. split ! $ split ! $ move ! (1 ∷ []) $ peeks ! R (Is R) (shows 𝓛 R) r (v ∷ []) (λ is. drop ! $
         move ! (1 ∷ []) $ pick ! (λ ws. split ! $ move ! (1 ∷ []) $ heard ! _ (λ e.
@@ -280,7 +280,7 @@ module _ {M : Type 1} {𝓤 : Ura M} (𝓛 : Logic 𝓤) (T : Ended) (Ψ : (κs 
 -- it asks for nothing, or for a fact
 module _ {M : Type 1} (𝓤 : Ura M) (T : Ended) where
   abbrev pub free : (κs : Lfts T.signature.lifetimes) → Args T.signature κs → SProp 𝓤
-  free κs a = emp 𝓤
+  free _ _ = emp 𝓤
 
   abbrev pub owed : ((κs : Lfts T.signature.lifetimes) → Args T.signature κs → Type 0) → (κs : Lfts T.signature.lifetimes) → Args T.signature κs → SProp 𝓤
   owed Ψ κs a = fact 𝓤 (Ψ κs a)

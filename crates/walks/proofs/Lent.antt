@@ -7,26 +7,27 @@ use mathlib.Core.List.{List, [], ◌∷◌}
 use lib.ListN.{length, set}
 use lib.Dec.{T, lit<}
 use seplogic.Ra.Ura.{Ura}
-use seplogic.Ra.TreeShare.{full_share}
+use base.Fraction.{full_share}
 use mir.Syntax.{Mutability, Ty, named, ty_ref, ty_array, copy, place, deref, rv_opd, seq, assign, Body}
 use mir.Val.{Val, vptr, has_ty, WT}
 use base.Logic.{SProp, ent, sep, wand, ex, ex_i, guard, via, guard_i, mono_l, fst∗, apply∗}
-use base.Fml.{Lft, GName, Share, Fml, ftrue, fsep, fat, froom, flft, fobor}
+use base.Fml.{Lft, GName, Share, Fml, ftrue, fsep, fat, froom, flft}
 use prog.Memory.{size}
 use prog.Wp.{Env, Calls, Loops, spot_of}
 use types.Logic.{Logic, sem}
 use contract.Monad.{fact, fact_i, fact_use}
-use types.Kit.{Item, ‵, raw, ◌⊛◌, mean, ⋆, nth, del, put, pull, unpull, fill, Post, Goal, runs, Soaks, Seq, Step, step, ◌$◌, ◌∵◌, !, qed, by, move, drop, use1, use2, split, rewrite, fsplit, fjoin, frame, assume, done}
+use types.Kit.{Item, ‵, raw, ◌⊛◌, mean, ⋆, nth, del, put, pull, unpull, fill, Post, Goal, runs, Soaks, Seq, Step, step, ◌$◌, ◌∵◌, !, qed, by, move, drop, use1, use2, split, join, rewrite, fsplit, fjoin, frame, assume, done}
 use types.Run.{Reads, Writes, look, init, hop, stop, from, load, of_opd, assigns}
-use types.Share.{arr_parts}
 use denote.RattleType.{RattleType}
 use denote.Laws.{Is, shows}
-use denote.Memory.{cell_at, shares, pointee}
+use denote.Memory.{cell_at, pointee}
 use denote.Array.{Array, array_vals, Array-Typed, Array-Makes}
-use denote.Ref.{Bor}
-use denote.Slice.{slice_ty, slice_val, ShrSlice, Room as RoomOf, shr_slice_copy}
+use denote.Ref.{Bor, MutBor}
+use denote.Slice.{slice_ty, slice_val, ShrSlice, Room as RoomOf, shr_slice_at}
 use denote.Index.{row, place_is, elem_out, elem_back, elem_put, looks_slice, shuts_slice}
 use denote.Steps.{only, owned}
+use denote.Opens.{Shut}
+use denote.Shadow.{pure_l, pure_i}
 use denote.Struct.Laws as LL
 use denote.Enum.Laws as EL
 use Rattle.dtml.specs.declared.Tx.{Tx}
@@ -90,23 +91,30 @@ abbrev pub records : Share → List Tx → ℕ → ℕ → Fml
 records q ys b o = row R.the_row q ys b o
 
 module _ (b o : ℕ) (γ : GName) where
-  -- the reference, when its row is zs
-  abbrev pub ref : List Tx → Bor (List Tx)
-  ref zs = record { ref_ptr = (b, o); now = zs }
+  -- the reference as `&mut`, when its row is zs
+  abbrev pub mut_ref : List Tx → MutBor (List Tx)
+  mut_ref zs = record { ref_ptr = (b, o); ghost_name = γ; now = zs }
 
-  -- what it owns as `&mut`, where it was lent with ys and is now at zs, and as `&`
+  -- what it owns, where it was lent with ys and is now at zs
   abbrev pub Mut : Lft → List Tx → List Tx → Fml
   Mut κ ys zs = own.Mut R.the_row (named 0) κ b o γ ys zs
 
-  abbrev pub Shr : Lft → List Tx → Fml
-  Shr κ ys = (ShrSlice (named 0) κ R.the_row).own_val (ref ys) (slice_val (b, o) (length ys) ∷ [])
-
-  -- what closes the one, and shuts the other
+  -- what closes it
   abbrev pub Closes : Lft → Share → List Tx → Fml
   Closes κ q ys = own.Closes R.the_row (named 0) κ b o γ q ys
 
-  abbrev pub Shuts : Lft → Share → List Tx → Share → Fml
-  Shuts κ q ys q' = fsep (fobor κ q ((arr_parts (shares R.the_row) (length ys)).part q' ys b o)) (Shr κ ys)
+module _ (b o : ℕ) where
+  -- the reference as `&`
+  abbrev pub ref : List Tx → Bor (List Tx)
+  ref zs = record { ref_ptr = (b, o); now = zs }
+
+  -- what it owns
+  abbrev pub Shr : Lft → List Tx → Fml
+  Shr κ ys = (ShrSlice (named 0) κ R.the_row).own_val (ref ys) (slice_val (b, o) (length ys) ∷ [])
+
+  -- what shuts it: the way back of the token of κ, for the share q' of the records, and the reference
+  abbrev pub Shuts : {M : Type 1} {𝓤 : Ura M} → Logic 𝓤 → Lft → Share → List Tx → Share → Item 𝓤
+  Shuts 𝓛 κ q ys q' = Shut 𝓛 κ q (records q' ys b o) ⊛ ‵ (Shr κ ys)
 
 -- a record, passed by value
 abbrev pub a-record : {M : Type 1} {𝓤 : Ura M} (𝓛 : Logic 𝓤) (t : Tx) → Fits t → Passed 𝓛 R.the_row
@@ -266,20 +274,19 @@ module _ {M : Type 1} {𝓤 : Ura M} {𝓛 : Logic 𝓤} {K : Type 0} {Γ : List
     closes t z κ q b o γ ys zs e room = own.closes R.the_row (named 0) κ b o γ t z q ys zs e room
 
     -- one that is lent as `&` is looked into, and shut
-    pub looks : K → Soaks G → (κ : Lft) (q : Share) (b o : ℕ) (γ : GName) (ys : List Tx) {Q : Fml}
-        → ((q' : Share) → Seq K 𝓛 (‵ (records q' ys b o) ∷ ‵ (Shuts b o γ κ q ys q') ∷ Γ) G)
-        → Seq K 𝓛 ((‵ (flft κ q) ⊛ ‵ ftrue) ∷ ‵ (fsep (Shr b o γ κ ys) Q) ∷ Γ) G
-    looks t z κ q b o γ ys k = split t $ move t (2 ∷ []) $ fsplit t $
-        use1 𝓛 (‵ (Shr b o γ κ ys) ⊛ ‵ (Shr b o γ κ ys)) ((shr_slice_copy 𝓛 (named 0) κ R.the_row).twice (ref b o γ ys)
-        (slice_val (b, o) (length ys) ∷ [])) $
-        split t $ fsplit t $ drop t $ fsplit t $ drop t $ move t (0 ∷ 3 ∷ []) $
-        looks_slice t z R.the_row (Is R.the_row) (shows 𝓛 R.the_row) vals (LL.tells R.the_type R'.the_laws) (LL.copy R.the_type R'.the_copy 𝓛) ys b o
-        (λ q'.
-        move t (2 ∷ 4 ∷ 5 ∷ []) $ drop t $ drop t $ drop t $ move t (1 ∷ 2 ∷ []) $ fjoin t $ move t (1 ∷ 0 ∷ []) $ k q')
+    pub looks : K → Soaks G → (κ : Lft) (q : Share) (b o : ℕ) (ys : List Tx) {Q : Fml}
+        → ((q' : Share) → Seq K 𝓛 (‵ (records q' ys b o) ∷ Shuts b o 𝓛 κ q ys q' ∷ Γ) G)
+        → Seq K 𝓛 ((‵ (flft κ q) ⊛ ‵ ftrue) ∷ ‵ (fsep (Shr b o κ ys) Q) ∷ Γ) G
+    looks t z κ q b o ys k = split t $ move t (2 ∷ []) $ fsplit t $ fsplit t $
+        pure_l t (shr_slice_at R.the_row (ref b o ys) (slice_val (b, o) (length ys) ∷ [])) (λ at.
+        move t (0 ∷ 2 ∷ []) $ looks_slice t z R.the_row (LL.copied R.the_type R'.the_copy 𝓛) ys b o (λ q'.
+        move t (3 ∷ 4 ∷ []) $ drop t $ drop t $ move t (2 ∷ []) $
+        pure_i t (shr_slice_at R.the_row (ref b o ys) (slice_val (b, o) (length ys) ∷ [])) (tt, (tt, tt)) at $ fjoin t $ move t (2 ∷ 0 ∷ []) $ join t $
+        move t (1 ∷ 0 ∷ []) $ k q'))
 
-    pub shuts : K → Soaks G → (κ : Lft) (q : Share) (b o : ℕ) (γ : GName) (ys : List Tx) (q' : Share)
-        → Step K 𝓛 (‵ (Shr b o γ κ ys) ∷ ‵ (flft κ q) ∷ Γ) G (‵ (records q' ys b o) ∷ ‵ (Shuts b o γ κ q ys q') ∷ Γ) G
-    shuts t z κ q b o γ ys q' = step (λ s. move t (1 ∷ []) $ fsplit t $ move t (2 ∷ 0 ∷ []) $ shuts_slice t z R.the_row q' ys b o $ move t (1 ∷ 0 ∷ []) $ s)
+    pub shuts : K → Soaks G → (κ : Lft) (q : Share) (b o : ℕ) (ys : List Tx) (q' : Share)
+        → Step K 𝓛 (‵ (Shr b o κ ys) ∷ ‵ (flft κ q) ∷ Γ) G (‵ (records q' ys b o) ∷ Shuts b o 𝓛 κ q ys q' ∷ Γ) G
+    shuts t z κ q b o ys q' = step (λ s. move t (1 ∷ []) $ split t $ move t (2 ∷ 0 ∷ []) $ shuts_slice t z R.the_row q' ys b o $ move t (1 ∷ 0 ∷ []) $ s)
 
     -- ---- what records own is had for nothing
     pub owns-record : K → (r : Tx) → Fits r → Step K 𝓛 (‵ ((R.the_row).own_val r (vals r)) ∷ Γ) G Γ G

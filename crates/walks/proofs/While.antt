@@ -6,7 +6,7 @@ use lib.WfN.{lt-wf_rel}
 use mathlib.Core.Bool.{Bool, true, false}
 use mathlib.Core.List.{List, [], ◌∷◌, ◌++◌}
 use seplogic.Ra.Ura.{Ura}
-use seplogic.Ra.TreeShare.{full_share}
+use base.Fraction.{full_share}
 use lib.Dec.{T}
 use mir.Syntax.{Body, Rv as RValue, skip, seq, copy, place, assign, block, loop, cond, exit}
 use mir.Val.{vbool, has_ty}
