@@ -8,8 +8,7 @@ use dtml::{Call, Sys};
 use numbers::{asked, call, make_fresh};
 
 // Makes the store fresh, whatever the numbers were; answers 9 to rows of the wrong length.
-#[unsafe(no_mangle)]
-pub extern "C" fn register_make_fresh(
+pub fn register_make_fresh(
     vol: &mut [u32],
     pers: &mut [u32],
     old: &mut [u32],
@@ -22,8 +21,7 @@ pub extern "C" fn register_make_fresh(
     make_fresh(vol, pers, old, held, records)
 }
 
-#[unsafe(no_mangle)]
-pub extern "C" fn register_flush(
+pub fn register_flush(
     vol: &mut [u32],
     pers: &mut [u32],
     old: &mut [u32],
@@ -38,8 +36,7 @@ pub extern "C" fn register_flush(
     asked(vol, pers, old, held, records, Call::Of { sys })
 }
 
-#[unsafe(no_mangle)]
-pub extern "C" fn register_crash(
+pub fn register_crash(
     vol: &mut [u32],
     pers: &mut [u32],
     old: &mut [u32],
@@ -54,8 +51,7 @@ pub extern "C" fn register_crash(
 }
 
 // One line of recovery.
-#[unsafe(no_mangle)]
-pub extern "C" fn register_recover(
+pub fn register_recover(
     vol: &mut [u32],
     pers: &mut [u32],
     old: &mut [u32],
@@ -70,8 +66,7 @@ pub extern "C" fn register_recover(
 }
 
 // As many recovery lines as the allowance, or all that are left if those are fewer; the value is how many were carried out.
-#[unsafe(no_mangle)]
-pub extern "C" fn register_recover_up_to(
+pub fn register_recover_up_to(
     vol: &mut [u32],
     pers: &mut [u32],
     old: &mut [u32],

@@ -17,8 +17,7 @@ ghost use Rattle.numbers.specs.Numbers.{rows, call_numbers, given, gives};
 use dtml::{Ask, Call};
 use numbers::{asked, call};
 
-#[unsafe(no_mangle)]
-pub extern "C" fn register_begin(
+pub fn register_begin(
     vol: &mut [u32],
     pers: &mut [u32],
     old: &mut [u32],
@@ -33,8 +32,7 @@ pub extern "C" fn register_begin(
     asked(vol, pers, old, held, records, Call::On { id, ask })
 }
 
-#[unsafe(no_mangle)]
-pub extern "C" fn register_read(
+pub fn register_read(
     vol: &mut [u32],
     pers: &mut [u32],
     old: &mut [u32],
@@ -50,8 +48,7 @@ pub extern "C" fn register_read(
     asked(vol, pers, old, held, records, Call::On { id, ask })
 }
 
-#[unsafe(no_mangle)]
-pub extern "C" fn register_write(
+pub fn register_write(
     vol: &mut [u32],
     pers: &mut [u32],
     old: &mut [u32],
@@ -68,8 +65,7 @@ pub extern "C" fn register_write(
     asked(vol, pers, old, held, records, Call::On { id, ask })
 }
 
-#[unsafe(no_mangle)]
-pub extern "C" fn register_commit(
+pub fn register_commit(
     vol: &mut [u32],
     pers: &mut [u32],
     old: &mut [u32],
@@ -85,8 +81,7 @@ pub extern "C" fn register_commit(
 }
 
 // One line of a transaction; the value is what was read, if the answer is 2.
-#[unsafe(no_mangle)]
-pub extern "C" fn register_step(
+pub fn register_step(
     vol: &mut [u32],
     pers: &mut [u32],
     old: &mut [u32],

@@ -13,8 +13,7 @@ use trace::replay_beside;
 
 // Puts what the program replay prints of a trace at the start of out, as much of it as there is room for, and gives the place after it.
 // No text is longer than 655,438 bytes. The rest of out stays as it is.
-#[unsafe(no_mangle)]
-pub extern "C" fn register_replay(trace: &[u8], out: &mut [u8]) -> usize
+pub fn register_replay(trace: &[u8], out: &mut [u8]) -> usize
     ensures { buffer out.new result ≡ puts (buffer out.old 0) (printed trace.now) }
 {
     let mut vol = [0u32; 256];

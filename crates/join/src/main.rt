@@ -14,9 +14,9 @@ ghost use Rattle.join.specs.Join.{ask_at, asked_at, text_at};
 
 use crate::tell::tell;
 use dtml::{Ask, Call, Recovery, Sys};
-use libc::STDOUT_FILENO;
 use machine::work::blank;
 use machine::{Held, call, make_fresh};
+use std::io;
 
 // Transaction 0 is cut by the power failure, which is call 17; then comes transaction 1.
 fn owner(i: usize) -> u64
@@ -93,8 +93,8 @@ fn run(out: &mut [u8]) -> usize
     at
 }
 
-fn main() {
+fn main(rt: HostRuntime) -> io::Result<()> {
     let mut text = [0u8; 512];
     let length = run(&mut text);
-    io::write_all(STDOUT_FILENO, &text[..length]);
+    rt.write_all(&text[..length])
 }

@@ -13,10 +13,11 @@ ghost use Rattle.day.specs.Replay.{replay as replayed, text_of, printed};
 ghost use Rattle.day.specs.Ends.{longest};
 
 use dtml::Recovery;
-use libc::{STDIN_FILENO, STDOUT_FILENO};
 use machine::Held;
 use machine::work::blank;
 use reader::trace::header;
+use std::io;
+use std::io::Read;
 
 // Owns the 64 records and lends them, for a replay on rows that were lent; gives the length of its text.
 fn on_records(
@@ -63,16 +64,20 @@ fn report(trace: &[u8], out: &mut [u8]) -> usize
 }
 
 // Room for any text.
-fn room<const N: usize>() -> [u8; N]
-    ensures { N ≡ length result }
+fn room() -> [u8; 655438]
+    ensures { 655438 ≡ length result }
 {
-    [0; N]
+    [0; 655438]
 }
 
-fn main() {
-    let mut bytes = [0u8; 65537];
-    let got = io::read_full(STDIN_FILENO, &mut bytes);
-    let mut text = room::<655438>();
-    let length = report(&bytes[..got], &mut text);
-    io::write_all(STDOUT_FILENO, &text[..length]);
+// Reads a trace, or as much of a longer one as shows that it is longer; there is room for all of it before the first byte is read. Where a read fails, what stood
+// before it is replayed all the same, and the program then ends with the error.
+fn main(rt: HostRuntime) -> io::Result<()> {
+    let mut bytes = Vec::with_capacity(rt.alloc(), 65538)?;
+    let read = rt.reader().take(65537).read_to_end(&mut bytes);
+    let mut text = room();
+    let length = report(&bytes, &mut text);
+    rt.write_all(&text[..length])?;
+    read?;
+    Ok(())
 }
