@@ -1,4 +1,4 @@
-//! What the static library of `calls` exports, as C calls it. Each function is lent the rows of volatile, persistent and old words, of what is
+//! What the static library of `calls_c` exports, as C calls it. Each function is lent the rows of volatile, persistent and old words, of what is
 //! held beside them and of the records, as pointer and length, and gives the answer's number. Rows of any length and content may be lent; they may not overlap.
 
 macro_rules! exports {
