@@ -3,7 +3,7 @@
 // three of words, 8 numbers beside them and 256 for the records; any lengths and any numbers may be handed over, and those that spell no store are answered 9.
 // Each call gives the answer's number. Its value is 0 but for a step and for recovery with an allowance, so only these take a row for it: the value is put into
 // the row's first number, if there is one; a refused call (9 or above) leaves that row, too, as it was.
-// Here are the calls on a transaction's record, and in `events` those on none.
+// Here are the calls on a transaction's record, and in `events` those on none. The crate `calls_c` exports them under the same names.
 
 #![tactic(auto)]
 

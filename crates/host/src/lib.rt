@@ -1,4 +1,4 @@
-// Replays a trace for a host in another language, such as C or Rust: numbers and slices of numbers are all that it hands over.
+// Replays a trace for a host in another language, such as C or Rust: numbers and slices of numbers are all that it hands over. The crate `host_c` exports it.
 
 #![tactic(auto)]
 
