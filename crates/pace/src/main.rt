@@ -11,12 +11,12 @@ ghost use Rattle.machine.specs.Given.{outcome_of};
 ghost use Rattle.pace.specs.Pace.{words_of, marks_of, old_words_of, count_of, recovery_of, records_of, calls, times_of, last_of, printed};
 
 use dtml::{Answer, Ask, Call, Phase, Recovery, Tx};
+use input::read_full;
 use machine::work::blank;
 use machine::{After, Held, call};
 use marks::{Marks, mark};
 use parts::answer::{number, value};
 use std::io;
-use std::io::Read;
 use text::put_answer;
 
 // A byte of what was read; past its end, 0.
@@ -166,13 +166,12 @@ fn report(bytes: &[u8], out: &mut [u8]) -> usize
     put_answer(out, 0, n, number(answer), value(answer))
 }
 
-// There is room for both bytes before the first is read. Where a read fails, the line is that of what stood before it, and the program then ends with the error.
+// Where a read fails, the line is that of what stood before it, and the program then ends with the error.
 fn main(rt: HostRuntime) -> io::Result<()> {
-    let mut bytes = Vec::with_capacity(rt.alloc(), 3)?;
-    let read = rt.reader().take(2).read_to_end(&mut bytes);
+    let mut bytes = [0u8; 2];
+    let (got, read) = read_full(rt.reader(), &mut bytes);
     let mut text = [0u8; 64];
-    let length = report(&bytes, &mut text);
+    let length = report(&bytes[..got], &mut text);
     rt.write_all(&text[..length])?;
-    read?;
-    Ok(())
+    read
 }

@@ -13,11 +13,11 @@ ghost use Rattle.day.specs.Replay.{replay as replayed, text_of, printed};
 ghost use Rattle.day.specs.Ends.{longest};
 
 use dtml::Recovery;
+use input::read_full;
 use machine::Held;
 use machine::work::blank;
 use reader::trace::header;
 use std::io;
-use std::io::Read;
 
 // Owns the 64 records and lends them, for a replay on rows that were lent; gives the length of its text.
 fn on_records(
@@ -70,14 +70,13 @@ fn room() -> [u8; 655438]
     [0; 655438]
 }
 
-// Reads a trace, or as much of a longer one as shows that it is longer; there is room for all of it before the first byte is read. Where a read fails, what stood
-// before it is replayed all the same, and the program then ends with the error.
+// Reads a trace, or as much of a longer one as shows that it is longer. Where a read fails, what stood before it is replayed all the same, and the program then ends
+// with the error.
 fn main(rt: HostRuntime) -> io::Result<()> {
-    let mut bytes = Vec::with_capacity(rt.alloc(), 65538)?;
-    let read = rt.reader().take(65537).read_to_end(&mut bytes);
+    let mut bytes = [0u8; 65537];
+    let (got, read) = read_full(rt.reader(), &mut bytes);
     let mut text = room();
-    let length = report(&bytes, &mut text);
+    let length = report(&bytes[..got], &mut text);
     rt.write_all(&text[..length])?;
-    read?;
-    Ok(())
+    read
 }
