@@ -1,5 +1,5 @@
 -- Document 01: "For all inputs a public function's promise settles the answer and every lent row afterwards, after a refusal too." A promise is a function's clauses
--- as the toolchain makes them from its source, so none can be weakened unseen. There is no exception.
+-- as the toolchain makes them from its source, so none can be weakened unseen. The one exception is `input::read_full`, whose outcome is the reader's.
 use Rattle.std.specs.Prelude.{◌≡◌}
 use seplogic.Ra.Ura.{Ura}
 use base.Logic.{SProp, ent}

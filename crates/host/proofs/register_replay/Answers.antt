@@ -24,5 +24,5 @@ pub slice_bounds-replay_beside-end-3 : goal.slice_bounds-replay_beside-end-3
 slice_bounds-replay_beside-end-3 c = sym (length-take-le _ _ (few_words _ _ c.header-n.ensures))
 
 pub returns : goal.returns
-returns c = 
+returns c =
     (shown _ _ _ _ _ _ _ _ _ _ _ c.replay_beside-done.result c.header-n.ensures (sym (length-take-le _ _ (few_words _ _ c.header-n.ensures))) (sym (length-take-le _ _ (few_words _ _ c.header-n.ensures))) (sym (length-take-le _ _ (few_words _ _ c.header-n.ensures))) c.replay_beside-done.ensures).0
