@@ -1,9 +1,8 @@
 // The types of the step machine: a transaction's record, recovery, and what a call answers.
 
-// Where a transaction stands. A line carries what it or a later line of its operation needs.
-
 #![tactic(auto)]
 
+// Where a transaction stands. A line carries what it or a later line of its operation needs.
 #[derive(Clone, Copy)]
 pub enum Phase {
     Fresh,
