@@ -169,7 +169,8 @@ fn report(bytes: &[u8], out: &mut [u8]) -> usize
 // Where a read fails, the line is that of what stood before it, and the program then ends with the error.
 fn main(rt: HostRuntime) -> io::Result<()> {
     let mut bytes = [0u8; 2];
-    let (got, read) = read_full(rt.reader(), &mut bytes);
+    let mut reader = rt.reader();
+    let (got, read) = read_full(&mut reader, &mut bytes);
     let mut text = [0u8; 64];
     let length = report(&bytes[..got], &mut text);
     rt.write_all(&text[..length])?;

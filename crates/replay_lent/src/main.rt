@@ -74,7 +74,8 @@ fn room() -> [u8; 655438]
 // with the error.
 fn main(rt: HostRuntime) -> io::Result<()> {
     let mut bytes = [0u8; 65537];
-    let (got, read) = read_full(rt.reader(), &mut bytes);
+    let mut reader = rt.reader();
+    let (got, read) = read_full(&mut reader, &mut bytes);
     let mut text = room();
     let length = report(&bytes[..got], &mut text);
     rt.write_all(&text[..length])?;
