@@ -31,9 +31,11 @@ use Rattle.system.specs.declared.Event.{Event}
 use Rattle.system.specs.declared.Event.TheVariants as Event
 use Rattle.system.specs.Recovering.{happened_of}
 use Rattle.reader.specs.declared.Item.{Item}
+use Rattle.reader.specs.declared.place.Read.{Read}
+use Rattle.reader.specs.declared.place.Reader.{Reader}
 use Rattle.reader.specs.declared.Item.TheVariants.{End, Stops, Does}
 use Rattle.reader.specs.Trace.{found, script, script_of}
-use Rattle.reader.specs.Said.{place_after}
+use Rattle.reader.specs.Said.{place_after, moved_on}
 use Rattle.reader.proofs.Scripts.{script-end, script-stops, found-refusal, after-inside}
 use Rattle.text.specs.Buffer.{Buffer, buffer, puts}
 use Rattle.day.specs.declared.Ended.{Ended}
@@ -273,20 +275,31 @@ module _ {bs : List ℕ} {n : ℕ} {first vol pers old marks out : List ℕ} {ts
 
 -- ---- the loop after a turn, by what the turn says to be changed
 
-module _ {bs : List ℕ} {n : ℕ} {first vol pers old marks out vol' pers' old' marks' out' : List ℕ} {ts : List Tx} {at at' i : ℕ} {r : Recovery} (c : Course) {item : Item} (x : Moved)
-    (loop : Looping bs n first vol pers old out marks c.glb r ts c.totals at c.place) (on : c.going ≡ true) (here : item ≡ found (drop at bs)) (there : at' ≡ place_after at item) (slot : i ≡ slot_at item)
-    (says : Moves x (memory vol' pers' old' marks' x.course.glb) out' r (record_at ts i) (turn_of (memory vol pers old marks c.glb) r (record_at ts i) c out item)
-    × BriefAt (memory vol pers old marks c.glb) r (record_at ts i) c item) where
-  -- with such a recovery and such records
+-- what the loop knows of its locals: the reader's bytes are the trace's, the replay's invariant, and once it no longer goes on, that what is left of the trace is its end or a
+-- refused record
+pub record Kept (bs : List ℕ) (n : ℕ) (first vol pers old out marks : List ℕ) (c : Course) (r : Recovery) (ts : List Tx) (d : Reader) : Type 0 where
+  pub same : d.trace.now ≡ bs
+  pub loop : Looping bs n first vol pers old out marks c.glb r ts c.totals d.at c.place
+  pub ended : c.going ≡ false → (c.refusal < 100) × (rest_of bs d.at ≡ script [] c.refusal)
+
+-- what `next` read there
+abbrev pub NextRead : Reader → Read → Type 0
+NextRead d z = (z.item ≡ found (drop d.at d.trace.now)) × (z.reader ≡ moved_on d)
+
+pub here : {bs : List ℕ} (d : Reader) (z : Read) → d.trace.now ≡ bs → NextRead d z → z.item ≡ found (drop d.at bs)
+here d z same next = next.0 ∙ ap (λ (xs : List ℕ). found (drop d.at xs)) same
+
+module _ {bs : List ℕ} {n : ℕ} {first vol pers old marks out vol' pers' old' marks' out' : List ℕ} {ts : List Tx} {i : ℕ} {r : Recovery} (c : Course) {d : Reader} (z : Read) (x : Moved)
+    (kept : Kept bs n first vol pers old out marks c r ts d) (on : c.going ≡ true) (next : NextRead d z) (slot : i ≡ slot_at z.item)
+    (says : Moves x (memory vol' pers' old' marks' x.course.glb) out' r (record_at ts i) (turn_of (memory vol pers old marks c.glb) r (record_at ts i) c out z.item)
+        × BriefAt (memory vol pers old marks c.glb) r (record_at ts i) c z.item) where
+  -- with such a recovery and such records; and the bytes that are left are fewer
   abbrev pub Onward : Recovery → List Tx → Type 0
-  Onward v rows =
-      Looping bs n first vol' pers' old' out' marks' x.course.glb v rows x.course.totals at' x.course.place
-      × (x.course.going ≡ false → (x.course.refusal < 100) × (rest_of bs at' ≡ script [] x.course.refusal))
-      × (measure bs at' x.course.going < measure bs at c.going)
+  Onward v rows = Kept bs n first vol' pers' old' out' marks' x.course v rows z.reader × (measure bs z.reader.at x.course.going < measure bs d.at c.going)
 
   abbrev SaysAt : ℕ → Type 0
-  SaysAt k = Moves x (memory vol' pers' old' marks' x.course.glb) out' r (record_at ts k) (turn_of (memory vol pers old marks c.glb) r (record_at ts k) c out item)
-      × BriefAt (memory vol pers old marks c.glb) r (record_at ts k) c item
+  SaysAt k = Moves x (memory vol' pers' old' marks' x.course.glb) out' r (record_at ts k) (turn_of (memory vol pers old marks c.glb) r (record_at ts k) c out z.item)
+      × BriefAt (memory vol pers old marks c.glb) r (record_at ts k) c z.item
 
   abbrev moment-at : ℕ → Moment
   moment-at k = moment_of x (memory vol' pers' old' marks' x.course.glb) out' r (record_at ts k)
@@ -296,17 +309,26 @@ module _ {bs : List ℕ} {n : ℕ} {first vol pers old marks out vol' pers' old'
   put-at k = reach x.crashed (set ts k (pick x.turned x.tx (record_at ts k)))
 
   abbrev StandsAt : ℕ → ℕ → Type 0
-  StandsAt k to = Stands bs n first (moment-at k) (put-at k) to × (measure bs to x.course.going < measure bs at c.going)
+  StandsAt k to = Stands bs n first (moment-at k) (put-at k) to × (measure bs to x.course.going < measure bs d.at c.going)
 
-  stands : StandsAt i at'
+  stands : StandsAt i z.reader.at
   stands =
       let e = subst SaysAt slot says in
-      let p = subst (After c loop item) (sym e.0.so) (moves c loop item here e.1) in
-      let q : StandsAt (slot_at item) (place_after at item) = (p.0, subst (λ (b : Bool). measure bs (place_after at item) x.course.going < measure bs at b) (sym on) p.1) in
-      subst (λ (k : ℕ). StandsAt k at') (sym slot) (subst (StandsAt (slot_at item)) (sym there) q)
+      let p = subst (After c kept.loop z.item) (sym e.0.so) (moves c kept.loop z.item (here d z kept.same next) e.1) in
+      let there : z.reader.at ≡ place_after d.at z.item = ap (λ (y : Reader). y.at) next.1 ∙ ap (place_after d.at) (sym next.0) in
+      let q : StandsAt (slot_at z.item) (place_after d.at z.item) =
+      (p.0, subst (λ (b : Bool). measure bs (place_after d.at z.item) x.course.going < measure bs d.at b) (sym on) p.1) in
+      subst (λ (k : ℕ). StandsAt k z.reader.at) (sym slot) (subst (StandsAt (slot_at z.item)) (sym there) q)
 
   onward : (v : Recovery) → v ≡ pick x.recovers x.recovery r → (rows : List Tx) → rows ≡ put-at i → Onward v rows
-  onward v e rows q = (rw (e, q) (stands.0.going, stands.0.short), stands.0.over, stands.1)
+  onward v e rows q = (
+    record {
+      same = ap (λ (y : Reader). y.trace.now) next.1 ∙ kept.same;
+      loop = rw (e, q) (stands.0.going, stands.0.short);
+      ended = stands.0.over;
+    },
+    stands.1,
+  )
 
   abbrev back-with : Bool → Bool → List Tx
   back-with crashed turned = reach crashed (set ts i (pick turned x.tx (record_at ts i)))

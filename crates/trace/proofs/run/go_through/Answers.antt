@@ -1,19 +1,13 @@
 -- `trace::run::go_through` meets its contract: before the first turn the store is fresh, a turn's end is the law on what it says to be changed, and after the last
 -- one the replay is through.
-use Rattle.std.proofs.Common.{◌≡◌, ℕ, Bool, List, refl, replicate, ap, sym, ◌∙◌, drop, true, false, arith}
+use Rattle.std.proofs.Common.{refl, replicate, ap, sym, ◌∙◌}
 use Rattle.dtml.specs.declared.Recovery.TheVariants.{Idle}
 use Rattle.dtml.specs.declared.Phase.TheVariants.{Fresh}
-use Rattle.dtml.specs.declared.Tx.{Tx}
-use Rattle.dtml.specs.Store.{memory, store, fresh}
 use Rattle.dtml.specs.Store.{tx as tx_of}
-use Rattle.reader.specs.declared.place.Reader.{Reader}
-use Rattle.reader.specs.declared.Item.{Item}
-use Rattle.reader.specs.Trace.{found, script}
-use Rattle.reader.specs.Said.{place_after}
 use Rattle.day.specs.Replay.{totals}
-use Rattle.day.proofs.Going.{Looping, looping-start, few-records, rest_of}
+use Rattle.day.proofs.Going.{looping-start, few-records}
 use Rattle.trace.specs.declared.run.Course.{Course}
-use Rattle.trace.proofs.Turned.{true-not, asks_at, turned-on, crashed-on, recovering-on, still-on, through}
+use Rattle.trace.proofs.Turned.{true-not, here, asks_at, turned-on, crashed-on, recovering-on, still-on, through}
 use Rattle.trace.proofs.run.go_through.Goals as goal
 
 pub loop-course-init : goal.loop-course-init
@@ -31,8 +25,8 @@ loop-course-init c =
 
 pub turn-done-requires : goal.turn-done-requires
 turn-done-requires c =
-    let here = c.next-read.ensures.0 ∙ ap (λ (bs : List ℕ). found (drop c.loop-course.reader.at bs)) c.loop-course.invariant.same in
-    (few-records c.loop-course.invariant.loop, asks_at c.loop-course.course c.loop-course.invariant.loop c.next-read.result.item here)
+    let kept = c.loop-course.invariant in
+    (few-records kept.loop, asks_at c.loop-course.course kept.loop c.next-read.result.item (here c.loop-course.reader c.next-read.result kept.same c.next-read.ensures))
 
 pub returns : goal.returns
 returns c =
@@ -42,96 +36,40 @@ returns c =
 
 pub loop-course-preserved-then-done : goal.loop-course-preserved-then-done
 loop-course-preserved-then-done c =
-    let at = c.loop-course.reader.at in
-    let here = c.next-read.ensures.0 ∙ ap (λ (bs : List ℕ). found (drop at bs)) c.loop-course.invariant.same in
-    let there = ap (λ (d : Reader). d.at) c.next-read.ensures.1 ∙ ap (place_after at) (sym c.next-read.ensures.0) in
-    let on =
-    turned-on c.loop-course.course c.turn-done.result c.loop-course.invariant.loop c.loop-course-test.true here there c.slot_of-i.ensures.0 c.turn-done.ensures
-    c.if-done.true in
-    record {
-      same = ap (λ (d : Reader). d.trace.now) c.next-read.ensures.1 ∙ c.loop-course.invariant.same;
-      loop = on.0;
-      ended = on.1;
-    }
+    (turned-on c.loop-course.course c.next-read.result c.turn-done.result c.loop-course.invariant c.loop-course-test.true c.next-read.ensures c.slot_of-i.ensures.0 c.turn-done.ensures
+    c.if-done.true).0
 
 pub loop-course-smaller-then-done : goal.loop-course-smaller-then-done
 loop-course-smaller-then-done c =
-    let at = c.loop-course.reader.at in
-    let here = c.next-read.ensures.0 ∙ ap (λ (bs : List ℕ). found (drop at bs)) c.loop-course.invariant.same in
-    let there = ap (λ (d : Reader). d.at) c.next-read.ensures.1 ∙ ap (place_after at) (sym c.next-read.ensures.0) in
-    let on =
-    turned-on c.loop-course.course c.turn-done.result c.loop-course.invariant.loop c.loop-course-test.true here there c.slot_of-i.ensures.0 c.turn-done.ensures
-    c.if-done.true in
-    on.2
+    (turned-on c.loop-course.course c.next-read.result c.turn-done.result c.loop-course.invariant c.loop-course-test.true c.next-read.ensures c.slot_of-i.ensures.0 c.turn-done.ensures
+    c.if-done.true).1
 
 pub loop-course-preserved-then-done-3 : goal.loop-course-preserved-then-done-3
 loop-course-preserved-then-done-3 c =
-    let at = c.loop-course.reader.at in
-    let here = c.next-read.ensures.0 ∙ ap (λ (bs : List ℕ). found (drop at bs)) c.loop-course.invariant.same in
-    let there = ap (λ (d : Reader). d.at) c.next-read.ensures.1 ∙ ap (place_after at) (sym c.next-read.ensures.0) in
-    let on =
-    crashed-on c.loop-course.course c.turn-done.result c.loop-course.invariant.loop c.loop-course-test.true here there c.slot_of-i.ensures.0 c.turn-done.ensures
-    c.if-done.false c.if-done-2.true c.if-done-3.true c.crash_txs-rows.ensures in
-    record {
-      same = ap (λ (d : Reader). d.trace.now) c.next-read.ensures.1 ∙ c.loop-course.invariant.same;
-      loop = on.0;
-      ended = on.1;
-    }
+    (crashed-on c.loop-course.course c.next-read.result c.turn-done.result c.loop-course.invariant c.loop-course-test.true c.next-read.ensures c.slot_of-i.ensures.0 c.turn-done.ensures
+    c.if-done.false c.if-done-2.true c.if-done-3.true c.crash_txs-rows.ensures).0
 
 pub loop-course-smaller-then-done-3 : goal.loop-course-smaller-then-done-3
 loop-course-smaller-then-done-3 c =
-    let at = c.loop-course.reader.at in
-    let here = c.next-read.ensures.0 ∙ ap (λ (bs : List ℕ). found (drop at bs)) c.loop-course.invariant.same in
-    let there = ap (λ (d : Reader). d.at) c.next-read.ensures.1 ∙ ap (place_after at) (sym c.next-read.ensures.0) in
-    let on =
-    crashed-on c.loop-course.course c.turn-done.result c.loop-course.invariant.loop c.loop-course-test.true here there c.slot_of-i.ensures.0 c.turn-done.ensures
-    c.if-done.false c.if-done-2.true c.if-done-3.true c.crash_txs-rows.ensures in
-    on.2
+    (crashed-on c.loop-course.course c.next-read.result c.turn-done.result c.loop-course.invariant c.loop-course-test.true c.next-read.ensures c.slot_of-i.ensures.0 c.turn-done.ensures
+    c.if-done.false c.if-done-2.true c.if-done-3.true c.crash_txs-rows.ensures).1
 
 pub loop-course-preserved-else-done-3 : goal.loop-course-preserved-else-done-3
 loop-course-preserved-else-done-3 c =
-    let at = c.loop-course.reader.at in
-    let here = c.next-read.ensures.0 ∙ ap (λ (bs : List ℕ). found (drop at bs)) c.loop-course.invariant.same in
-    let there = ap (λ (d : Reader). d.at) c.next-read.ensures.1 ∙ ap (place_after at) (sym c.next-read.ensures.0) in
-    let on =
-    recovering-on c.loop-course.course c.turn-done.result c.loop-course.invariant.loop c.loop-course-test.true here there c.slot_of-i.ensures.0 c.turn-done.ensures
-    c.if-done.false c.if-done-2.true c.if-done-3.false in
-    record {
-      same = ap (λ (d : Reader). d.trace.now) c.next-read.ensures.1 ∙ c.loop-course.invariant.same;
-      loop = on.0;
-      ended = on.1;
-    }
+    (recovering-on c.loop-course.course c.next-read.result c.turn-done.result c.loop-course.invariant c.loop-course-test.true c.next-read.ensures c.slot_of-i.ensures.0 c.turn-done.ensures
+    c.if-done.false c.if-done-2.true c.if-done-3.false).0
 
 pub loop-course-smaller-else-done-3 : goal.loop-course-smaller-else-done-3
 loop-course-smaller-else-done-3 c =
-    let at = c.loop-course.reader.at in
-    let here = c.next-read.ensures.0 ∙ ap (λ (bs : List ℕ). found (drop at bs)) c.loop-course.invariant.same in
-    let there = ap (λ (d : Reader). d.at) c.next-read.ensures.1 ∙ ap (place_after at) (sym c.next-read.ensures.0) in
-    let on =
-    recovering-on c.loop-course.course c.turn-done.result c.loop-course.invariant.loop c.loop-course-test.true here there c.slot_of-i.ensures.0 c.turn-done.ensures
-    c.if-done.false c.if-done-2.true c.if-done-3.false in
-    on.2
+    (recovering-on c.loop-course.course c.next-read.result c.turn-done.result c.loop-course.invariant c.loop-course-test.true c.next-read.ensures c.slot_of-i.ensures.0 c.turn-done.ensures
+    c.if-done.false c.if-done-2.true c.if-done-3.false).1
 
 pub loop-course-preserved : goal.loop-course-preserved
 loop-course-preserved c =
-    let at = c.loop-course.reader.at in
-    let here = c.next-read.ensures.0 ∙ ap (λ (bs : List ℕ). found (drop at bs)) c.loop-course.invariant.same in
-    let there = ap (λ (d : Reader). d.at) c.next-read.ensures.1 ∙ ap (place_after at) (sym c.next-read.ensures.0) in
-    let on =
-    still-on c.loop-course.course c.turn-done.result c.loop-course.invariant.loop c.loop-course-test.true here there c.slot_of-i.ensures.0 c.turn-done.ensures
-    c.if-done.false c.if-done-2.false in
-    record {
-      same = ap (λ (d : Reader). d.trace.now) c.next-read.ensures.1 ∙ c.loop-course.invariant.same;
-      loop = on.0;
-      ended = on.1;
-    }
+    (still-on c.loop-course.course c.next-read.result c.turn-done.result c.loop-course.invariant c.loop-course-test.true c.next-read.ensures c.slot_of-i.ensures.0 c.turn-done.ensures
+    c.if-done.false c.if-done-2.false).0
 
 pub loop-course-smaller : goal.loop-course-smaller
 loop-course-smaller c =
-    let at = c.loop-course.reader.at in
-    let here = c.next-read.ensures.0 ∙ ap (λ (bs : List ℕ). found (drop at bs)) c.loop-course.invariant.same in
-    let there = ap (λ (d : Reader). d.at) c.next-read.ensures.1 ∙ ap (place_after at) (sym c.next-read.ensures.0) in
-    let on =
-    still-on c.loop-course.course c.turn-done.result c.loop-course.invariant.loop c.loop-course-test.true here there c.slot_of-i.ensures.0 c.turn-done.ensures
-    c.if-done.false c.if-done-2.false in
-    on.2
+    (still-on c.loop-course.course c.next-read.result c.turn-done.result c.loop-course.invariant c.loop-course-test.true c.next-read.ensures c.slot_of-i.ensures.0 c.turn-done.ensures
+    c.if-done.false c.if-done-2.false).1
