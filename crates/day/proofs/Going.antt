@@ -1,6 +1,6 @@
 -- The loop's invariant: run from here, the rest of the trace ends as the whole trace does from a fresh store. A record more takes one call off the
 -- rest, and the definitions take the same step; at the end no call is left.
-use Prim.Native.Nat.{ℕ, ◌+◌, ◌-◌, ◌*◌, ◌≤◌, ◌<◌}
+use Prim.Native.Nat.{ℕ, ◌+◌, ◌*◌, ◌≤◌, ◌<◌}
 use native.Mathlib.Omega.{arith}
 use native.Mathlib.Nat.{zero-add}
 use mathlib.Core.Path.{◌≡◌, refl, sym, ap, subst, ◌∙◌}
@@ -12,7 +12,7 @@ use Rattle.bits.specs.Marks.{pick, count_of}
 use Rattle.bits.proofs.Laws.{laws}
 use Rattle.dtml.specs.declared.Recovery.{Recovery}
 use Rattle.dtml.specs.declared.Tx.{Tx}
-use Rattle.dtml.specs.Table.{Reply, reply}
+use Rattle.dtml.specs.Table.{Reply}
 use Rattle.dtml.specs.Store.{Store, memory, store, fresh, record_at}
 use Rattle.dtml.specs.declared.Sys.TheVariants.{Flush as flush, Crash as crash, Recover as recover, RecoverUpTo as recover_up_to}
 use Rattle.dtml.specs.declared.Call.{Call}

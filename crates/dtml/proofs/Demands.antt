@@ -22,7 +22,7 @@ use Rattle.dtml.specs.Lines.{line_at, recovery_line, even}
 use Rattle.dtml.specs.Checks.{checks, unfit, not_idle}
 use Rattle.dtml.specs.Calls.{ask, up_to, system, act, call, refused}
 use Rattle.dtml.specs.History.{over, sees, Tale, live_words, last, later_after, tale_at, is_e2, noted, World, tell, dawn, runs}
-use Rattle.dtml.specs.Demands.{Size, after, number, value, CommittedMemories, Durable, BothSides, WholeWhenRecovered, WholeWhenIdle, WordsInLog, NeverIdle, CutBeforeE2, CutAfterE2, Reads, RecoveryCost, EnteredOnce, NoCrash, crashed, logged, ExactCost, lines_left, Allowance, NothingUnfit}
+use Rattle.dtml.specs.Demands.{Size, after, number, CommittedMemories, Durable, BothSides, WholeWhenRecovered, WholeWhenIdle, WordsInLog, NeverIdle, CutBeforeE2, CutAfterE2, Reads, RecoveryCost, EnteredOnce, NoCrash, crashed, logged, ExactCost, lines_left, Allowance, NothingUnfit}
 use Rattle.dtml.proofs.Invariant.{Free, Owner, Ender}
 use Rattle.dtml.proofs.Words.{true-or-false, true-not-false, pick-case, is-idle, idle-is, busy-is, none-marked, sees-agree}
 use Rattle.dtml.proofs.Roles.{Role, free, owner, ender, role}
@@ -31,7 +31,6 @@ use Rattle.dtml.proofs.Tales.{is-E2, runs-tales, dawn-tales}
 use Rattle.dtml.proofs.Low.{LowW, tell-low, glb-low}
 use Rattle.dtml.proofs.Fit.{line-number}
 use Rattle.dtml.proofs.Fitness.{never-unfit, fine, fine-after, not-nine}
-use Rattle.dtml.proofs.SystemCalls.{in-recovery}
 use Rattle.dtml.proofs.Counts.{entered-words}
 use Rattle.dtml.proofs.Cost.{left_in, idle-left, inv_left, up-to-run, sum, runs-sum, runs-paid, recovers-up_to, many-lines}
 

@@ -28,10 +28,8 @@ use Rattle.dtml.specs.Handed.{call_one, call_system, left, turn_left, event_left
 use Rattle.dtml.proofs.Fit.{none}
 use Rattle.dtml.proofs.Lift.{unfit-call, unfit-system, carries}
 use Rattle.lines.specs.declared.turn.Turn.{Turn}
-use Rattle.lines.specs.declared.turn.Turn.TheVariants as Turn
 use Rattle.lines.specs.Turning.{turned_of}
 use Rattle.system.specs.declared.Event.{Event}
-use Rattle.system.specs.declared.Event.TheVariants as Event
 use Rattle.system.specs.Recovering.{happened_of}
 use Rattle.records.specs.Row.{stored_if}
 use Rattle.machine.specs.declared.Held.{Held}

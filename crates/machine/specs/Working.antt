@@ -13,9 +13,7 @@ use Rattle.dtml.specs.First.{any_of}
 use Rattle.dtml.specs.Checks.{unfit_rows}
 use Rattle.dtml.specs.Handed.{Left, left, carry, crashed}
 use Rattle.lines.specs.declared.turn.Turn.{Turn}
-use Rattle.lines.specs.declared.turn.Turn.TheVariants as Turn
 use Rattle.system.specs.declared.Event.{Event}
-use Rattle.system.specs.declared.Event.TheVariants as Event
 use Rattle.machine.specs.declared.Held.{Held}
 use Rattle.machine.specs.declared.work.Worked.{Worked}
 use Rattle.machine.specs.declared.work.Made.{Made}

@@ -6,7 +6,6 @@ use Rattle.dtml.specs.Store.{Memory}
 use Rattle.dtml.specs.Asked.{RecoveryDid, recovery_did}
 use Rattle.dtml.specs.Handed.{Happened, nothing, a-flush, a-crash, some-lines}
 use Rattle.system.specs.declared.Event.{Event}
-use Rattle.system.specs.declared.Event.TheVariants as Event
 use Rattle.system.specs.declared.recovery.RecoveryTurn.{RecoveryTurn}
 
 -- a line of recovery, or some

@@ -25,10 +25,8 @@ use Rattle.dtml.specs.Checks.{not_idle}
 use Rattle.dtml.specs.Handed.{Left, turn_left, event_left, call_one, call_system, carry, is_crash, crashed, reach}
 use Rattle.dtml.proofs.Happens.{Counts, Counted, counted-so, refused-so, crash-marks}
 use Rattle.lines.specs.declared.turn.Turn.{Turn}
-use Rattle.lines.specs.declared.turn.Turn.TheVariants as Turn
 use Rattle.lines.specs.Turning.{turned_of}
 use Rattle.system.specs.declared.Event.{Event}
-use Rattle.system.specs.declared.Event.TheVariants as Event
 use Rattle.system.specs.Recovering.{happened_of}
 use Rattle.reader.specs.declared.Item.{Item}
 use Rattle.reader.specs.declared.place.Read.{Read}
@@ -292,7 +290,7 @@ here d z same next = next.0 ∙ ap (λ (xs : List ℕ). found (drop d.at xs)) sa
 module _ {bs : List ℕ} {n : ℕ} {first vol pers old marks out vol' pers' old' marks' out' : List ℕ} {ts : List Tx} {i : ℕ} {r : Recovery} (c : Course) {d : Reader} (z : Read) (x : Moved)
     (kept : Kept bs n first vol pers old out marks c r ts d) (on : c.going ≡ true) (next : NextRead d z) (slot : i ≡ slot_at z.item)
     (says : Moves x (memory vol' pers' old' marks' x.course.glb) out' r (record_at ts i) (turn_of (memory vol pers old marks c.glb) r (record_at ts i) c out z.item)
-        × BriefAt (memory vol pers old marks c.glb) r (record_at ts i) c z.item) where
+    × BriefAt (memory vol pers old marks c.glb) r (record_at ts i) c z.item) where
   -- with such a recovery and such records; and the bytes that are left are fewer
   abbrev pub Onward : Recovery → List Tx → Type 0
   Onward v rows = Kept bs n first vol' pers' old' out' marks' x.course v rows z.reader × (measure bs z.reader.at x.course.going < measure bs d.at c.going)

@@ -13,10 +13,8 @@ use Rattle.dtml.specs.Store.{Memory, Store}
 use Rattle.dtml.specs.Asked.{Outcome}
 use Rattle.dtml.specs.Handed.{Turned, no-turn, a_turn, Happened, nothing, a-flush, a-crash, some-lines}
 use Rattle.lines.specs.declared.turn.Turn.{Turn}
-use Rattle.lines.specs.declared.turn.Turn.TheVariants as Turn
 use Rattle.lines.specs.Turning.{turned_of}
 use Rattle.system.specs.declared.Event.{Event}
-use Rattle.system.specs.declared.Event.TheVariants as Event
 use Rattle.system.specs.Recovering.{happened_of}
 use Rattle.machine.specs.declared.Held.{Held}
 use Rattle.machine.specs.declared.After.{After}

@@ -1,6 +1,5 @@
 -- `host::register_replay` meets its contract: the rows lent are as long as the header says.
 use mathlib.Core.Path.{sym}
-use borrow.Author.Rules.{rules}
 use lib.Seq.{length-take-le}
 use Rattle.day.proofs.Shown.{few_words, shown}
 use Rattle.host.proofs.register_replay.Goals as goal

@@ -1,5 +1,4 @@
 -- `join::asked_at` meets its contract: the power failure and recovery are two places of the table, and every other call is on its owner's record.
-use borrow.Author.Rules.{rules}
 use borrow.Author.Tests.{ne_eqb}
 use Rattle.join.specs.Join.{asked_at}
 use Rattle.join.proofs.asked_at.Goals as goal

@@ -5,7 +5,7 @@ use Rattle.dtml.specs.Store.{Store}
 use Rattle.dtml.specs.Calls.{call}
 use Rattle.io.specs.Counts.{IsPrefixLen}
 use Rattle.machine.proofs.Caller.{Rows, these-rows}
-use Rattle.text.specs.Buffer.{Buffer, buffer}
+use Rattle.text.specs.Buffer.{Buffer}
 use Rattle.join.specs.Join.{text_at}
 use Rattle.join.proofs.Going.{made, started, same-store, called, wrote, counts-so}
 use Rattle.join.proofs.run.Goals as goal

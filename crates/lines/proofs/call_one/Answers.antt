@@ -1,6 +1,5 @@
 -- `lines::call_one` meets its contract: where there is no record the answer is `nobody`'s, and where there is one, its identifier makes no difference.
 use mathlib.Core.Path.{◌∙◌}
-use borrow.Author.Rules.{rules}
 use borrow.Author.Tests.{le-leb}
 use Rattle.lines.proofs.Called.{no_record, any-there}
 use Rattle.lines.proofs.call_one.Goals as goal

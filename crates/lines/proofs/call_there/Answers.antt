@@ -1,6 +1,5 @@
 -- `lines::call_there` meets its contract: each return is one law of Called.antt, on the tests that came before it. What a line asks is part of the test that what is handed in is fit.
 use mathlib.Core.Path.{sym, ◌∙◌}
-use borrow.Author.Rules.{rules}
 use Rattle.lines.proofs.Room.{room}
 use Rattle.lines.proofs.Called.{recovering, unfit-beside, unfit-record, fit, begins, reads, writes, commits, steps}
 use Rattle.lines.proofs.call_there.Goals as goal

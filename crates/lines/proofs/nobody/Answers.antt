@@ -1,6 +1,5 @@
 -- `lines::nobody` meets its contract: the two tests are the two that make what is handed over unfit, the record's first; where neither applies it is fit.
 use mathlib.Core.Path.{sym, ◌∙◌}
-use borrow.Author.Rules.{rules}
 use Rattle.dtml.specs.Checks.{unfit_one}
 use Rattle.lines.proofs.Called.{unfit-own}
 use Rattle.lines.proofs.nobody.Goals as goal

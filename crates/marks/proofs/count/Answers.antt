@@ -8,7 +8,6 @@ use lib.Count.{ones, ones-le}
 use lib.ListN.{length, get_or, drop, drop_of_length-le}
 use Rattle.bits.specs.Marks.{count_of}
 use Rattle.marks.proofs.Row.{count_next}
-use borrow.Author.Rules.{rules}
 use Rattle.marks.proofs.count.Goals as goal
 
 -- a number of the row has at most 64 ones

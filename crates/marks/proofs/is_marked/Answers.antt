@@ -7,7 +7,6 @@ use lib.ListN.{get_or}
 use Rattle.bits.specs.Marks.{is_marked}
 use Rattle.bits.proofs.Digits.{digit_shift}
 use Rattle.bits.proofs.Laws.{past-unmarked}
-use borrow.Author.Rules.{rules}
 use Rattle.marks.proofs.is_marked.Goals as goal
 
 pub returns-then-w-ge256 : goal.returns-then-w-ge256

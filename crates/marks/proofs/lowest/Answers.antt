@@ -1,12 +1,12 @@
 -- `marks::lowest` meets its contract. The loop's invariant: the words passed and the lowest marked word from number i on make the row's lowest marked word.
 -- The measure is the numbers left.
-use Prim.Native.Nat.{ℕ, ◌+◌, ◌*◌, ◌-◌, ◌≤◌}
+use Prim.Native.Nat.{ℕ}
 use mathlib.Core.Path.{◌≡◌, ap}
 use mathlib.Core.List.{List}
 use native.Mathlib.Numerals.{add-one}
 use native.Mathlib.Omega.{arith}
 use lib.Count.{trailing_le}
-use lib.ListN.{length, get_or, drop, drop_of_length-le}
+use lib.ListN.{length, get_or, drop_of_length-le}
 use Rattle.bits.specs.Marks.{lowest_of}
 use Rattle.marks.proofs.Row.{lowest-found, lowest-next}
 use Rattle.marks.proofs.lowest.Goals as goal

@@ -1,6 +1,6 @@
 -- `marks::stands_from` meets its contract. The loop's invariant: what stands from `from` on in the row from number i on is what stands from n on in the row.
 -- The measure is the numbers left. The two returns before it are laws: nothing stands from past the row's end on, and from a word of the last number on that number says it.
-use Prim.Native.Nat.{ℕ, ◌+◌, ◌-◌, ◌/◌, ◌^◌, ◌≤◌, ◌<◌}
+use Prim.Native.Nat.{ℕ, ◌+◌, ◌-◌, ◌/◌, ◌^◌, ◌<◌}
 use mathlib.Core.Path.{◌≡◌, refl, sym, ap, ◌∙◌}
 use mathlib.Core.List.{List, []}
 use native.Mathlib.Nat.{mod-eq_of_lt}

@@ -7,7 +7,6 @@ use lib.ListN.{get_or, set}
 use Rattle.bits.specs.Marks.{with_mark}
 use Rattle.bits.proofs.Digits.{and-shift}
 use Rattle.bits.proofs.Laws.{with-past}
-use borrow.Author.Rules.{rules}
 use Rattle.marks.proofs.unmark.Goals as goal
 
 pub returns-then-w-lt256 : goal.returns-then-w-lt256

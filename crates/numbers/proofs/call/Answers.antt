@@ -1,6 +1,5 @@
 -- `numbers::call` meets its contract: each return is the law on the way that led there, over what the functions called promise.
 use native.Mathlib.Omega.{arith}
-use borrow.Author.Rules.{rules}
 use Rattle.numbers.proofs.Whole.{answers, held-refused, records-refused, records-long, held-long, called}
 use Rattle.numbers.proofs.call.Goals as goal
 

@@ -2,7 +2,6 @@
 use mathlib.Core.List.{[]}
 use mathlib.Core.Path.{refl}
 use borrow.Author.Tests.{not-true, not-false}
-use borrow.Author.Rules.{rules}
 use Rattle.numbers.proofs.Whole.{answers, held-short, records-short, rows-refused, made-fresh}
 use Rattle.numbers.proofs.make_fresh.Goals as goal
 

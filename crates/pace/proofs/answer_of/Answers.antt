@@ -1,8 +1,5 @@
 -- `pace::answer_of` meets its contract: the rows lent are as long as the definition's.
-use mathlib.Core.Path.{sym}
-use borrow.Author.Rules.{rules}
-use lib.Seq.{length-take-le}
-use Rattle.pace.proofs.Reports.{few_words, few-old-words, answers}
+use Rattle.pace.proofs.Reports.{answers}
 use Rattle.pace.proofs.answer_of.Goals as goal
 
 pub returns : goal.returns

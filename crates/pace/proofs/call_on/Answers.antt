@@ -1,5 +1,5 @@
 -- `pace::call_on` meets its contract: a turn is one call more, and at the end all are done.
-use Rattle.std.proofs.Common.{◌≡◌, arith}
+use Rattle.std.proofs.Common.{arith}
 use Rattle.machine.proofs.Caller.{Rows, these-rows}
 use Rattle.pace.proofs.Going.{none_yet, one_more, promised}
 use Rattle.pace.proofs.call_on.Goals as goal

@@ -1,5 +1,4 @@
 -- `pace::report` meets its contract: the line is the definition's, and there is room for it.
-use borrow.Author.Rules.{rules}
 use Rattle.pace.proofs.Reports.{reports}
 use Rattle.pace.proofs.report.Goals as goal
 

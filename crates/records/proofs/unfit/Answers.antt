@@ -1,5 +1,5 @@
 -- `records::unfit` meets its contract: a turn looks at one record more, and the loop goes as far as a row of 64 is long.
-use Rattle.std.proofs.Common.{◌≡◌, ℕ, ◌<◌, List, true, length, refl, ap, ◌∙◌, add-one, arith}
+use Rattle.std.proofs.Common.{ℕ, ◌<◌, List, true, length, refl, ap, ◌∙◌, add-one, arith}
 use Rattle.bits.specs.Marks.{pick}
 use Rattle.dtml.specs.declared.Tx.{Tx}
 use Rattle.dtml.specs.Checks.{unfit_txs, unfit_tx}

@@ -1,6 +1,5 @@
 -- `replay_lent::report` meets its contract: the rows lent are as long as the header says, and the buffer has room for the text.
 use mathlib.Core.Path.{sym}
-use borrow.Author.Rules.{rules}
 use lib.Seq.{length-take-le}
 use Rattle.day.proofs.Shown.{few_words}
 use Rattle.replay_lent.proofs.Reports.{reports}

@@ -1,6 +1,5 @@
 -- `system::crash` meets its contract: what is handed over is unfit, or the volatile words are those of the persistent row, which is as long.
 use mathlib.Core.Path.{sym, ◌∙◌}
-use borrow.Author.Rules.{rules}
 use Rattle.dtml.specs.Handed.{call_system}
 use Rattle.dtml.proofs.Fit.{fits}
 use Rattle.system.proofs.crash.Goals as goal

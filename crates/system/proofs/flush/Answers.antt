@@ -1,7 +1,6 @@
 -- `system::flush` meets its contract: each return is the case of the tests that it is under, and a word that passes them is flushed as the definition says.
 use mathlib.Core.Path.{sym, ap, ◌∙◌}
 use borrow.Author.Tests.{le-leb, lt-leb}
-use borrow.Author.Rules.{rules}
 use Rattle.dtml.specs.Handed.{call_system, a-flush}
 use Rattle.dtml.specs.Store.{memory}
 use Rattle.system.proofs.Named.{flush-in}

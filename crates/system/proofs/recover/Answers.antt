@@ -1,6 +1,5 @@
 -- `system::recover` meets its contract: each return is the case of the tests that it is under; what is left after both is what the recovery line leaves.
-use mathlib.Core.Path.{sym, ap, ◌∙◌}
-use borrow.Author.Rules.{rules}
+use mathlib.Core.Path.{ap}
 use Rattle.dtml.specs.Handed.{call_system, some-lines}
 use Rattle.system.proofs.recover.Goals as goal
 

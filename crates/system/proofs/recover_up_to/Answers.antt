@@ -1,8 +1,6 @@
 -- `system::recover_up_to` meets its contract: each return is the case of the tests that it is under; what is left after both is what the lines up to the allowance leave,
 -- and the value that they answer is their number.
-use mathlib.Core.Path.{sym, ap, ◌∙◌}
-use borrow.Author.Tests.{not-false}
-use borrow.Author.Rules.{rules}
+use mathlib.Core.Path.{ap}
 use Rattle.dtml.specs.Handed.{call_system, some-lines}
 use Rattle.dtml.specs.Asked.{RecoveryDid}
 use Rattle.system.proofs.recover_up_to.Goals as goal

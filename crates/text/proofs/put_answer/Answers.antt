@@ -1,8 +1,6 @@
 -- `put_answer` meets its contract: on the fast way by the promise of `put_short_answer`, for what the two tests say; else each field is put after the one before it.
-use native.Mathlib.Omega.{arith}
 use Rattle.text.specs.Text.{answer_line, line_of}
 use Rattle.text.proofs.Laws.{field-then}
-use borrow.Author.Rules.{rules}
 use Rattle.text.proofs.put_answer.Goals as goal
 
 pub returns : goal.returns

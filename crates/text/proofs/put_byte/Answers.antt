@@ -1,6 +1,5 @@
 -- `put_byte` meets its contract: where the place is inside the buffer the byte is set there, and else nothing changes.
 use mathlib.Core.Path.{sym}
-use borrow.Author.Rules.{rules}
 use Rattle.text.proofs.Laws.{put-fits, put_full}
 use Rattle.text.proofs.put_byte.Goals as goal
 

@@ -1,12 +1,11 @@
 -- `put_digits` meets its contract. The loop's invariant: the buffer with the last i digits of `rest` put in is the buffer at entry with all of n's digits put in.
 -- The measure is the digits left.
-use Prim.Native.Nat.{ℕ, suc, ◌+◌, ◌-◌, ◌%◌, ◌≤◌}
+use Prim.Native.Nat.{ℕ, suc, ◌+◌, ◌-◌, ◌%◌}
 use mathlib.Core.Path.{◌≡◌, refl, ap, ◌∙◌}
 use mathlib.Core.List.{List}
 use native.Mathlib.Omega.{arith}
-use lib.ListN.{length, length-set}
+use lib.ListN.{length-set}
 use lib.Seq.{sets}
-use Rattle.text.specs.Text.{decimal}
 use Rattle.text.proofs.Backwards.{last_digits, backwards-all, backwards-one, backwards-end, narrow}
 use Rattle.text.proofs.put_digits.Goals as goal
 

@@ -1,5 +1,4 @@
 -- `put_field` meets its contract: the number's text, and then the byte.
-use borrow.Author.Rules.{rules}
 use Rattle.text.proofs.Laws.{then-byte}
 use Rattle.text.proofs.put_field.Goals as goal
 

@@ -1,9 +1,6 @@
 -- `put_short` meets its contract: one digit and the byte after it are set where they stand; more digits are put, and the byte is set after them.
-use Prim.Native.Nat.{◌+◌}
 use native.Mathlib.Omega.{arith}
-use lib.ListN.{length-set}
 use Rattle.text.proofs.Backwards.{short-one, byte_fits, short-more}
-use borrow.Author.Rules.{rules}
 use Rattle.text.proofs.put_short.Goals as goal
 
 pub returns-then-n-lt10 : goal.returns-then-n-lt10

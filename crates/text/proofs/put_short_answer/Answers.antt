@@ -3,7 +3,6 @@ use native.Mathlib.Omega.{arith}
 use Rattle.text.specs.Text.{answer_line, line_of}
 use Rattle.text.proofs.Laws.{field-then}
 use Rattle.text.proofs.Backwards.{room-left}
-use borrow.Author.Rules.{rules}
 use Rattle.text.proofs.put_short_answer.Goals as goal
 
 pub put_short-at-requires-2 : goal.put_short-at-requires-2

@@ -1,5 +1,4 @@
 -- `put_stop` meets its contract: each byte and field is put after what is before it.
-use borrow.Author.Rules.{rules}
 use Rattle.text.specs.Text.{stop_line, line_of}
 use Rattle.text.proofs.Laws.{byte-then, field-then}
 use Rattle.text.proofs.put_stop.Goals as goal

@@ -1,5 +1,4 @@
 -- `put_totals` meets its contract: each byte and field is put after what is before it.
-use borrow.Author.Rules.{rules}
 use Rattle.text.specs.Text.{totals_line, line_of}
 use Rattle.text.proofs.Laws.{byte-then, field-then}
 use Rattle.text.proofs.put_totals.Goals as goal

@@ -1,6 +1,5 @@
 -- `trace::replay_beside` meets its contract: the header's refusal, the rows' refusal, or the records from a fresh store.
 use mathlib.Core.List.{[]}
-use borrow.Author.Rules.{rules}
 use Rattle.day.proofs.Whole.{header-stops, rows-stop, fresh-long, fresh-rows, records-so}
 use Rattle.trace.proofs.replay_beside.Goals as goal
 

@@ -1,10 +1,6 @@
 -- `join::tell::put_bytes` meets its contract: what is still to be put, after what was put, is the whole text.
-use Prim.Native.Nat.{◌-◌, ◌≤◌}
-use mathlib.Core.Path.{◌≡◌, refl, ◌∙◌}
+use mathlib.Core.Path.{◌∙◌}
 use native.Mathlib.Omega.{arith}
-use borrow.Author.Rules.{rules}
-use lib.ListN.{length, drop}
-use Rattle.text.specs.Buffer.{buffer, puts}
 use Rattle.join.proofs.Texts.{put_next, put_all, put_keeps}
 use Rattle.join.proofs.tell.put_bytes.Goals as goal
 

@@ -1,6 +1,5 @@
 -- `join::tell::put_line` meets its contract: its three pieces are put one after the other.
 use Rattle.join.proofs.Texts.{line-put}
-use borrow.Author.Rules.{rules}
 use Rattle.join.proofs.tell.put_line.Goals as goal
 
 pub returns : goal.returns

@@ -1,6 +1,5 @@
 -- `join::tell::put_named` meets its contract: the number is put after the name.
 use Rattle.text.proofs.Laws.{puts_then}
-use borrow.Author.Rules.{rules}
 use Rattle.join.proofs.tell.put_named.Goals as goal
 
 pub returns : goal.returns

@@ -1,6 +1,5 @@
 -- `join::tell::put_words` meets its contract: the three words are put one after the other.
 use Rattle.join.proofs.Texts.{words-put}
-use borrow.Author.Rules.{rules}
 use Rattle.join.proofs.tell.put_words.Goals as goal
 
 pub returns : goal.returns

@@ -1,12 +1,8 @@
 -- `lines::transaction::line` meets its contract: in each arm the phase is that arm's, and what the calls there ensure is the definition's clause for it.
 -- A word that the phase names is in the rows, by what the function requires.
-use mathlib.Core.Path.{refl}
-use native.Mathlib.Omega.{arith}
-use borrow.Author.Rules.{rules}
 use lib.Dec.{eqb}
 use Rattle.bits.specs.Marks.{is_marked}
 use Rattle.dtml.specs.Lines.{line_at, even}
-use Rattle.lines.proofs.Room.{word_in}
 use Rattle.lines.proofs.Tests.{turned-pick, turned-pick-glb}
 use Rattle.lines.proofs.transaction.line.Goals as goal
 

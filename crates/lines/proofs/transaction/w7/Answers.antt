@@ -1,6 +1,5 @@
 -- `lines::transaction::w7` meets its contract: the word is in both rows, so the flush is the definition's.
 use mathlib.Core.Path.{◌∙◌}
-use borrow.Author.Rules.{rules}
 use Rattle.parts.proofs.InRows.{in_rows}
 use Rattle.lines.proofs.transaction.w7.Goals as goal
 

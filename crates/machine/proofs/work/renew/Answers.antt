@@ -1,5 +1,4 @@
 -- `machine::work::renew` meets its contract: the lengths are refused, or every row is zeroed.
-use borrow.Author.Rules.{rules}
 use Rattle.machine.proofs.Whole.{fresh-refused, fresh-done}
 use Rattle.machine.proofs.work.renew.Goals as goal
 

@@ -1,5 +1,4 @@
 -- `machine::work::work` meets its contract: an unfit row is refused; else it is what the call on one record, or on none, left.
-use borrow.Author.Rules.{rules}
 use Rattle.machine.proofs.Whole.{unfit-row, on_one, on_none}
 use Rattle.machine.proofs.work.work.Goals as goal
 

@@ -1,11 +1,8 @@
 -- `machine::work::zero` meets its contract: after i turns the first i words are 0 and the others as they were.
 use Prim.Native.Nat.{◌≤◌, ◌-◌}
-use native.Mathlib.Omega.{arith}
-use mathlib.Core.Path.{◌≡◌, refl, ap, ◌∙◌}
-use mathlib.Core.List.{◌++◌, append-nil}
-use borrow.Author.Fill.{fill_none, fill_more}
-use borrow.Author.Rules.{rules}
-use lib.ListN.{length, replicate, drop, length-set, drop_of_length-le}
+use mathlib.Core.Path.{◌≡◌}
+use mathlib.Core.List.{◌++◌}
+use lib.ListN.{length, replicate, drop}
 use Rattle.machine.proofs.work.zero.Given as goal
 
 abbrev pub invariant-loop-i : goal.invariant-loop-i

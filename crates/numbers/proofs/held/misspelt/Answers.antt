@@ -1,7 +1,6 @@
 -- `numbers::held::misspelt` meets its contract: a row of another length spells nothing, and of eight numbers four can differ from what is read.
 use mathlib.Core.Bool.{not}
 use mathlib.Core.Path.{sym, ap}
-use borrow.Author.Rules.{rules}
 use Rattle.numbers.proofs.Beside.{not_eight, count-off, line-off, word-off, value_tells}
 use Rattle.numbers.proofs.held.misspelt.Goals as goal
 

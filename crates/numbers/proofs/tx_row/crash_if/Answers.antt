@@ -1,12 +1,8 @@
 -- `numbers::tx_row::crash_if` meets its contract. The loop's invariant: the records before this place are crashed, and with the others crashed too the row is
 -- what it comes to. The measure is what is left of the row.
-use Prim.Native.Nat.{◌≤◌, ◌-◌, ◌%◌}
 use native.Mathlib.Omega.{arith}
-use mathlib.Core.Path.{◌≡◌, refl, sym, ◌∙◌}
-use borrow.Author.Rules.{rules}
-use lib.ListN.{length}
-use Rattle.numbers.specs.Ways.{crash_numbers}
-use Rattle.numbers.proofs.Fours.{crashing, crash-next, crash-end}
+use mathlib.Core.Path.{sym, ◌∙◌}
+use Rattle.numbers.proofs.Fours.{crash-next, crash-end}
 use Rattle.numbers.proofs.tx_row.crash_if.Goals as goal
 
 pub loop-at-preserved : goal.loop-at-preserved

@@ -1,13 +1,10 @@
 -- `numbers::tx_row::crash_if` meets its contract. The loop's invariant: the records before this place are crashed, and with the others crashed too the row is
 -- what it comes to. The measure is what is left of the row.
 use Prim.Native.Nat.{◌≤◌, ◌-◌, ◌%◌}
-use native.Mathlib.Omega.{arith}
-use mathlib.Core.Path.{◌≡◌, refl, sym, ◌∙◌}
-use borrow.Author.Tests.{not-true, not-false}
-use borrow.Author.Rules.{rules}
+use mathlib.Core.Path.{◌≡◌}
 use lib.ListN.{length}
 use Rattle.numbers.specs.Ways.{crash_numbers}
-use Rattle.numbers.proofs.Fours.{crashing, crash-next, crash-end}
+use Rattle.numbers.proofs.Fours.{crashing}
 use Rattle.numbers.proofs.tx_row.crash_if.Given as goal
 
 abbrev pub invariant-loop-at : goal.invariant-loop-at

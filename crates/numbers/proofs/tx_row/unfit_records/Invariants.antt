@@ -1,13 +1,9 @@
 -- `numbers::tx_row::unfit_records` meets its contract. The loop's invariant: what the records from here on come to is what all of them come to.
 -- The measure is what is left of the row.
 use Prim.Native.Nat.{◌≤◌, ◌-◌, ◌%◌}
-use native.Mathlib.Omega.{arith}
-use mathlib.Core.Path.{◌≡◌, refl, sym, ◌∙◌}
-use borrow.Author.Tests.{eq-eqb, ne_eqb}
-use borrow.Author.Rules.{rules}
+use mathlib.Core.Path.{◌≡◌}
 use lib.ListN.{drop}
-use Rattle.numbers.specs.Ways.{unfit_from, unfit_records}
-use Rattle.numbers.proofs.Fours.{unfit-here, unfit-on, unfit-end}
+use Rattle.numbers.specs.Ways.{unfit_from}
 use Rattle.numbers.proofs.tx_row.unfit_records.Given as goal
 
 abbrev pub invariant-loop-at : goal.invariant-loop-at

@@ -1,6 +1,5 @@
 -- `numbers::tx_row::unfit_spelt` meets its contract: what is read, spelled again, is other numbers, or the same and the record's test decides.
 use Rattle.std.proofs.Common.{not, ap}
-use borrow.Author.Rules.{rules}
 use Rattle.numbers.proofs.Fours.{misspelt-unfit, spelt-tells}
 use Rattle.numbers.proofs.tx_row.unfit_spelt.Goals as goal
 

@@ -1,5 +1,4 @@
 -- `parts::fit::unfit_beside` meets its contract: it is the test for an idle recovery, and then what recovery adds.
-use borrow.Author.Rules.{rules}
 use Rattle.parts.proofs.Beside.{over-idle}
 use Rattle.parts.proofs.fit.unfit_beside.Goals as goal
 

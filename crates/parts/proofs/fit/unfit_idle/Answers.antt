@@ -1,5 +1,4 @@
 -- `parts::fit::unfit_idle` meets its contract: each return is the clause that applies, after those before it did not; an idle recovery adds nothing.
-use borrow.Author.Rules.{rules}
 use lib.Dec.{ltb}
 use Rattle.dtml.specs.Checks.{unfit_beside}
 use Rattle.parts.proofs.Beside.{last-but-false}

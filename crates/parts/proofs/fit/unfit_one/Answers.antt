@@ -1,5 +1,4 @@
 -- `parts::fit::unfit_one` meets its contract: each return is the clause that applies, after the one before it did not.
-use borrow.Author.Rules.{rules}
 use Rattle.dtml.proofs.Fit.{last}
 use Rattle.dtml.specs.Checks.{unfit_one}
 use Rattle.parts.proofs.fit.unfit_one.Goals as goal

@@ -1,5 +1,4 @@
 -- `parts::fit::unfit_tx` meets its contract: each return is the clause that applies, after the one before it did not.
-use borrow.Author.Rules.{rules}
 use borrow.Author.Tests.{lt-ltb, le-ltb}
 use Rattle.dtml.proofs.Fit.{last}
 use Rattle.dtml.specs.Checks.{unfit_tx}

@@ -2,7 +2,6 @@
 use Rattle.parts.specs.Flush.{flush_in}
 use Rattle.dtml.specs.Lines.{flush_of}
 use borrow.Author.Tests.{lt-ltb, le-ltb}
-use borrow.Author.Rules.{rules}
 use Rattle.parts.proofs.words.flush_word.Goals as goal
 
 pub returns-then-word-pers : goal.returns-then-word-pers

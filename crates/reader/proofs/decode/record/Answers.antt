@@ -1,5 +1,4 @@
 -- `reader::decode::record` meets its contract: an arm's number leads to the kind's row of the table, and in the last arm the first byte is the number of no row.
-use borrow.Author.Rules.{rules}
 use borrow.Author.Tests.{ne_eqb}
 use Rattle.reader.specs.Trace.{of_kind}
 use Rattle.reader.proofs.decode.record.Goals as goal

@@ -1,7 +1,6 @@
 -- `reader::trace::item_at` meets its contract: each return is the case of Places that its tests say; the part that is handed on is the body.
 use mathlib.Core.Path.{sym, ◌∙◌}
 use native.Mathlib.Nat.{add-sub_cancel_left}
-use borrow.Author.Rules.{rules}
 use Rattle.reader.proofs.Places.{none_left, one_left, no_body, beyond, within}
 use Rattle.reader.proofs.trace.item_at.Goals as goal
 

@@ -1,8 +1,6 @@
 -- `reader::trace::seen_at` meets its contract: the place after a record lies inside the trace, so it fits; each return is the case of `place_after` that its arm says.
-use mathlib.Core.Path.{sym, ap, ◌∙◌}
+use mathlib.Core.Path.{sym, ◌∙◌}
 use native.Mathlib.Omega.{arith}
-use borrow.Author.Rules.{rules}
-use Rattle.reader.specs.Said.{place_after}
 use Rattle.reader.proofs.Scripts.{after-inside}
 use Rattle.reader.proofs.trace.seen_at.Goals as goal
 

@@ -1,7 +1,6 @@
 -- `system::recovery::recovery_line` meets its contract: in each arm recovery is that arm's, and what the calls there ensure is the definition's clause for it.
 -- A word that recovery names is in the rows, by the test that they are fit.
 use mathlib.Core.Path.{refl, ◌∙◌}
-use borrow.Author.Rules.{rules}
 use Rattle.dtml.specs.Lines.{recovery_line, any_mark}
 use Rattle.system.proofs.Named.{chosen-in, named_in, flush-in}
 use Rattle.system.proofs.Tests.{recover-to-pick}

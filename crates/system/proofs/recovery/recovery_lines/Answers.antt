@@ -1,11 +1,7 @@
 -- `system::recovery::recovery_lines` meets its contract. The loop's invariant: the store stays fit, and what is left of the allowance, from where recovery stands, comes to what all of it comes to from the start.
 -- The measure is what is left of the allowance.
-use Prim.Native.Nat.{◌-◌}
 use mathlib.Core.Path.{sym, ◌∙◌}
-use native.Mathlib.Omega.{arith}
-use borrow.Author.Rules.{rules}
-use Rattle.dtml.specs.Store.{memory}
-use Rattle.system.proofs.Allowance.{Going, going_start, going_more, going-idle, going-spent}
+use Rattle.system.proofs.Allowance.{going_more, going-idle, going-spent}
 use Rattle.system.proofs.recovery.recovery_lines.Goals as goal
 
 pub returns-then-not-not_idle : goal.returns-then-not-not_idle

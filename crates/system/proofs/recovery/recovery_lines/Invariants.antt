@@ -1,12 +1,8 @@
 -- `system::recovery::recovery_lines` meets its contract. The loop's invariant: the store stays fit, and what is left of the allowance, from where recovery stands, comes to what all of it comes to from the start.
 -- The measure is what is left of the allowance.
 use Prim.Native.Nat.{◌-◌}
-use mathlib.Core.Path.{sym, ◌∙◌}
-use native.Mathlib.Omega.{arith}
-use borrow.Author.Rules.{rules}
-use borrow.Author.Tests.{not-true, not-false}
 use Rattle.dtml.specs.Store.{memory}
-use Rattle.system.proofs.Allowance.{Going, going_start, going_more, going-idle, going-spent}
+use Rattle.system.proofs.Allowance.{Going}
 use Rattle.system.proofs.recovery.recovery_lines.Given as goal
 
 abbrev pub invariant-loop-lines : goal.invariant-loop-lines

@@ -1,5 +1,4 @@
 -- `trace::finish::put_end` meets its contract: one text put after another is both.
-use borrow.Author.Rules.{rules}
 use Rattle.text.proofs.Laws.{puts_then}
 use Rattle.trace.proofs.finish.put_end.Goals as goal
 

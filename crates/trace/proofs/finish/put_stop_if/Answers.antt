@@ -1,6 +1,5 @@
 -- `trace::finish::put_stop_if` meets its contract: no refusal, no line.
-use borrow.Author.Tests.{eq-eqb, ne_eqb}
-use borrow.Author.Rules.{rules}
+use borrow.Author.Tests.{eq-eqb}
 use Rattle.text.specs.Buffer.{puts}
 use Rattle.trace.proofs.finish.put_stop_if.Goals as goal
 

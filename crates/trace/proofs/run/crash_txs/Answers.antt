@@ -1,13 +1,11 @@
 -- `trace::run::crash_txs` meets its contract: after i turns the first i records are crashed and the others still to be.
-use Prim.Native.Nat.{◌≤◌, ◌-◌}
 use native.Mathlib.Omega.{arith}
-use mathlib.Core.Path.{◌≡◌, refl, ap, ◌∙◌}
-use lib.ListN.{length, set, length-set}
-use borrow.Author.Rules.{rules}
+use mathlib.Core.Path.{ap, ◌∙◌}
+use lib.ListN.{set, length-set}
 use Rattle.dtml.specs.Store.{record_at}
-use Rattle.dtml.specs.Lines.{crash_tx, crash_txs}
+use Rattle.dtml.specs.Lines.{crash_tx}
 use Rattle.dtml.proofs.Lift.{default_free}
-use Rattle.records.proofs.Over.{over, crash-on, crashed-all}
+use Rattle.records.proofs.Over.{crash-on, crashed-all}
 use Rattle.trace.proofs.run.crash_txs.Goals as goal
 
 pub loop-i-preserved : goal.loop-i-preserved

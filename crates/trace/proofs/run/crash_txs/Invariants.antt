@@ -1,13 +1,9 @@
 -- `trace::run::crash_txs` meets its contract: after i turns the first i records are crashed and the others still to be.
 use Prim.Native.Nat.{◌≤◌, ◌-◌}
-use native.Mathlib.Omega.{arith}
-use mathlib.Core.Path.{◌≡◌, refl, ap, ◌∙◌}
-use lib.ListN.{length, set, length-set}
-use borrow.Author.Rules.{rules}
-use Rattle.dtml.specs.Store.{record_at}
-use Rattle.dtml.specs.Lines.{crash_tx, crash_txs}
-use Rattle.dtml.proofs.Lift.{default_free}
-use Rattle.records.proofs.Over.{over, crash-on, crashed-all}
+use mathlib.Core.Path.{◌≡◌}
+use lib.ListN.{length}
+use Rattle.dtml.specs.Lines.{crash_txs}
+use Rattle.records.proofs.Over.{over}
 use Rattle.trace.proofs.run.crash_txs.Given as goal
 
 abbrev pub invariant-loop-i : goal.invariant-loop-i

@@ -1,6 +1,5 @@
 -- `trace::run::on_none` meets its contract: what the call leaves is `call_system`'s, counted by its kind and printed by its answer; a crash or a line changes recovery.
 use native.Mathlib.Omega.{arith}
-use borrow.Author.Rules.{rules}
 use Rattle.dtml.specs.Store.{memory}
 use Rattle.trace.proofs.Turned.{few-number, refused-number, none-refused, none-flushed, none-crashed, lines-low, none-lines, still-moves, recovering-moves}
 use Rattle.trace.proofs.run.on_none.Goals as goal

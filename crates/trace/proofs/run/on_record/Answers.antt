@@ -1,5 +1,4 @@
 -- `trace::run::on_record` meets its contract: what the call leaves is `call_one`'s, counted and printed by its answer; a record that went is the one that is changed.
-use borrow.Author.Rules.{rules}
 use Rattle.dtml.specs.Store.{memory}
 use Rattle.trace.proofs.Turned.{few-number, refusal-number, record-refused, record-went, still-moves, went-moves}
 use Rattle.trace.proofs.run.on_record.Goals as goal

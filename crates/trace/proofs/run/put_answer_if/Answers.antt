@@ -1,5 +1,4 @@
 -- `trace::run::put_answer_if` meets its contract: an answer 0 has no line; any other has one, of thirty bytes at the most.
-use borrow.Author.Rules.{rules}
 use Rattle.day.proofs.Answers.{no_line, one_line}
 use Rattle.trace.proofs.run.put_answer_if.Goals as goal
 

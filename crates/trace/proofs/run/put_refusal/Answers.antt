@@ -5,7 +5,6 @@ use mathlib.Core.Path.{◌≡◌}
 use mathlib.Core.Bool.{true}
 use lib.Dec.{leb}
 use borrow.Author.Tests.{leb-true}
-use borrow.Author.Rules.{rules}
 use Rattle.day.proofs.Answers.{one_line}
 use Rattle.trace.proofs.run.put_refusal.Goals as goal
 

@@ -1,6 +1,5 @@
 -- `trace::run::run` meets its contract: a fresh store's count is 0 and its recovery idle; what the loop leaves, with the last lines, is the replay.
-use borrow.Author.Rules.{rules}
-use Rattle.trace.proofs.Turned.{fresh-held, through-ends}
+use Rattle.trace.proofs.Turned.{fresh-held}
 use Rattle.trace.proofs.run.run.Goals as goal
 
 pub go_through-done-requires : goal.go_through-done-requires

@@ -1,7 +1,5 @@
 -- `trace::run::turn` meets its contract: a record's call is done by one of two, and at the trace's end or at a refused record all stays but that it goes on no more.
-use borrow.Author.Rules.{rules}
-use Rattle.dtml.specs.Store.{memory}
-use Rattle.trace.proofs.Turned.{one-line-of, turn-does, turn-stops, turn-ends}
+use Rattle.trace.proofs.Turned.{one-line-of}
 use Rattle.trace.proofs.run.turn.Goals as goal
 
 pub on_none-requires : goal.on_none-requires
