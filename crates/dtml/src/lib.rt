@@ -41,6 +41,13 @@ pub struct Tx {
     pub phase: Phase,
 }
 
+impl Tx {
+    pub const FRESH: Tx = Tx {
+        loc: 0,
+        phase: Phase::Fresh,
+    };
+}
+
 // Where recovery stands; at C3 to C5, and only there, with the word and the value chosen.
 #[derive(Clone, Copy)]
 pub enum Recovery {
@@ -79,7 +86,7 @@ pub enum Call {
     Of { sys: Sys },
 }
 
-// What a call answers; specs/Table.antt lists the number and the value of each case.
+// What a call that is carried out answers.
 #[derive(Clone, Copy)]
 pub enum Answer {
     Taken { lines: u64 },
@@ -89,6 +96,11 @@ pub enum Answer {
     Committed,
     Aborted,
     Recovered { lines: u64 },
+}
+
+// Why a call is refused.
+#[derive(Clone, Copy)]
+pub enum Refusal {
     Unfit,
     NoWord,
     NoRecord,
@@ -98,3 +110,6 @@ pub enum Answer {
     NoLine,
     Idle,
 }
+
+// What a call answers; specs/Table.antt lists the number and the value of each case.
+pub type Answered = Result<Answer, Refusal>;
