@@ -180,7 +180,7 @@ passed n = Ok n
 abbrev refused : ℕ → Result ℕ ℕ
 refused k = Err k
 
-ok-not-err : {A : Type 0} {n k : ℕ} → passed n ≡ refused k → A
+pub ok-not-err : {A : Type 0} {n k : ℕ} → passed n ≡ refused k → A
 ok-not-err e = let z : ◌≡◌ {A = ℕ} 0 1 = cc in absurd (omega arith)
 
 err-is : {j k : ℕ} → refused j ≡ refused k → j ≡ k
