@@ -1,11 +1,12 @@
 -- What the code of a replay is handed and gives back, as the definitions have it.
-use Rattle.std.specs.Prelude.{ℕ, ◌≤◌, ◌≡◌, Bool, true, false, List, length, Option, Some, None, is_some}
+use Rattle.std.specs.Prelude.{ℕ, ◌≤◌, ◌≡◌, Bool, true, false, not, List, [], ◌∷◌, length, eqb, Option, Some, None, is_some, Result, Ok, Err}
 use Rattle.dtml.specs.declared.Tx.{Tx}
 use Rattle.dtml.specs.Store.{Store}
-use Rattle.dtml.specs.First.{first}
+use Rattle.dtml.specs.First.{any_of, first}
+use Rattle.bits.specs.Marks.{pick}
 use Rattle.records.specs.Row.{stored_if}
 use Rattle.machine.specs.Given.{store_of}
-use Rattle.reader.specs.Said.{number_of}
+use Rattle.reader.specs.Said.{number_of, header_of}
 use Rattle.reader.specs.Trace.{words_of, header_checks}
 use Rattle.text.specs.Buffer.{buffer, puts}
 use Rattle.day.specs.declared.ReplayRefusal.{ReplayRefusal}
@@ -19,6 +20,23 @@ use Rattle.day.specs.Replay.{Ending, Replay, text_of, unfit_for, replay}
 abbrev pub stop_number : ReplayRefusal → ℕ
 stop_number Unfit = 9
 stop_number (Trace refusal) = number_of refusal
+
+-- rows of these lengths do not fit n words
+abbrev pub misfit : ℕ → ℕ → ℕ → ℕ → ℕ → Bool
+misfit vol pers old txs n = any_of (not (eqb vol n) ∷ not (eqb pers n) ∷ not (eqb old n) ∷ not (eqb txs 64) ∷ [])
+
+-- before the first record: N, or the number of the refusal, the header's or that of rows of these lengths
+abbrev pub begun_if : Result ℕ ℕ → ℕ → ℕ → ℕ → ℕ → Result ℕ ℕ
+begun_if (Ok n) vol pers old txs = pick (misfit vol pers old txs n) (Err 9) (Ok n)
+begun_if (Err k) vol pers old txs = Err k
+
+abbrev pub begun : List ℕ → ℕ → ℕ → ℕ → ℕ → Result ℕ ℕ
+begun bs = begun_if (header_of bs)
+
+-- what the code says of it
+abbrev pub begun_said : Result ℕ ReplayRefusal → Result ℕ ℕ
+begun_said (Ok words) = Ok words
+begun_said (Err refusal) = Err (stop_number refusal)
 
 -- the numbers of the X line, 0 and 0 if nothing stopped the replay
 abbrev pub refusal_in : Option Stopped → ℕ

@@ -174,19 +174,19 @@ abbrev pub NoneApplies : List Check → Type 0
 NoneApplies [] = Unit {0}
 NoneApplies (c ∷ cs) = (c.applies ≡ false) × NoneApplies cs
 
-abbrev passed : ℕ → Result ℕ ℕ
+abbrev pub passed : ℕ → Result ℕ ℕ
 passed n = Ok n
 
-abbrev refused : ℕ → Result ℕ ℕ
+abbrev pub refused : ℕ → Result ℕ ℕ
 refused k = Err k
 
 pub ok-not-err : {A : Type 0} {n k : ℕ} → passed n ≡ refused k → A
 ok-not-err e = let z : ◌≡◌ {A = ℕ} 0 1 = cc in absurd (omega arith)
 
-err-is : {j k : ℕ} → refused j ≡ refused k → j ≡ k
+pub err-is : {j k : ℕ} → refused j ≡ refused k → j ≡ k
 err-is e = cc
 
-ok-is : {n m : ℕ} → passed n ≡ passed m → n ≡ m
+pub ok-is : {n m : ℕ} → passed n ≡ passed m → n ≡ m
 ok-is e = cc
 
 none-applies : (cs : List Check) (w n : ℕ) → first cs Err (passed w) ≡ passed n → (w ≡ n) × NoneApplies cs
