@@ -1,10 +1,10 @@
 -- What a step is once what was handed in was found fit and recovery idle; and what any call is while recovery is under way.
 use Rattle.std.specs.Prelude.{ℕ, Bool, false, not, [], ◌∷◌, leb}
 use Rattle.bits.specs.Marks.{pick}
-use Rattle.dtml.specs.declared.Answer.{Answer}
-use Rattle.dtml.specs.declared.Answer.TheVariants.{Unfit, NoWord, NotIdle}
 use Rattle.dtml.specs.declared.Ask.{Ask}
 use Rattle.dtml.specs.declared.Ask.TheVariants.{Begin as begin, Read as read, Write as write, Commit as commit, Step as step}
+use Rattle.dtml.specs.declared.Refusal.{Refusal}
+use Rattle.dtml.specs.declared.Refusal.TheVariants.{Unfit, NoWord, NotIdle}
 use Rattle.dtml.specs.declared.Tx.{Tx}
 use Rattle.dtml.specs.Table.{says}
 use Rattle.dtml.specs.Store.{Memory}
@@ -26,5 +26,5 @@ ask_past n commit = false
 ask_past n step = false
 
 -- the refusal of a call on a record while recovery is not idle, by whether what it was handed is unfit and the word is past the rows
-abbrev pub refusal_of : Bool → Bool → Answer
+abbrev pub refusal_of : Bool → Bool → Refusal
 refusal_of bad past = pick bad Unfit (pick past NoWord NotIdle)

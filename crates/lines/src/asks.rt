@@ -1,58 +1,63 @@
 // What is left to check of begin, read, write and commit once what was handed in was found fit and recovery idle. One that is taken puts the record at its first line.
-ghost use Rattle.std.specs.Prelude.{◌≡◌, leb};
+ghost use Rattle.std.specs.Prelude.{◌≡◌, Ok, Err, leb};
 ghost use Rattle.bits.specs.Marks.{pick};
+ghost use Rattle.dtml.specs.declared.Answer.TheVariants.{Taken};
 ghost use Rattle.dtml.specs.Lines.{stage as stage_of};
 ghost use Rattle.dtml.specs.Checks.{is_fresh, is_ready};
 ghost use Rattle.lines.specs.Turning.{turn_of};
 
-use crate::turn::{Turn, refused, to};
-use dtml::{Answer, Phase, Tx};
+use crate::turn::{Turn, to};
+use dtml::{Phase, Refusal, Tx};
 use parts::stages::{is_fresh, is_ready, stage};
 
-pub(crate) fn begin(tx: Tx) -> Turn
-    ensures { result ≡ pick (is_fresh (stage_of tx.phase)) (turn_of (Answer.Taken 0) tx.loc Phase.B1) (Turn.Refused Answer.NotFresh) }
+pub(crate) fn begin(tx: Tx) -> Result<Turn, Refusal>
+    ensures { result ≡ pick (is_fresh (stage_of tx.phase)) (Ok (turn_of (Taken 0) tx.loc Phase.B1)) (Err Refusal.NotFresh) }
 {
-    let phase = tx.phase;
-    if is_fresh(stage(phase)) {
-        return to(tx.loc, Phase::B1);
+    if !is_fresh(stage(tx.phase)) {
+        return Err(Refusal::NotFresh);
     }
-    refused(Answer::NotFresh)
+    Ok(to(tx.loc, Phase::B1))
 }
 
 // A record that is ready goes to this line.
-fn invoke(tx: Tx, line: Phase) -> Turn
-    ensures { result ≡ pick (is_ready (stage_of tx.phase)) (turn_of (Answer.Taken 0) tx.loc line) (Turn.Refused Answer.NotReady) }
+fn invoke(tx: Tx, line: Phase) -> Result<Turn, Refusal>
+    ensures { result ≡ pick (is_ready (stage_of tx.phase)) (Ok (turn_of (Taken 0) tx.loc line)) (Err Refusal.NotReady) }
 {
-    let phase = tx.phase;
-    if is_ready(stage(phase)) {
-        return to(tx.loc, line);
+    if !is_ready(stage(tx.phase)) {
+        return Err(Refusal::NotReady);
     }
-    refused(Answer::NotReady)
+    Ok(to(tx.loc, line))
+}
+
+// Rows of n words have the word.
+fn there(n: usize, word: u32) -> Result<(), Refusal>
+    ensures { result ≡ pick (leb n word) (Err Refusal.NoWord) (Ok tt) }
+{
+    if n <= word as usize {
+        return Err(Refusal::NoWord);
+    }
+    Ok(())
 }
 
 // Of rows of n words.
-pub(crate) fn read(n: usize, tx: Tx, word: u32) -> Turn
-    ensures { result ≡ pick (leb n word) (Turn.Refused Answer.NoWord)
-        (pick (is_ready (stage_of tx.phase)) (turn_of (Answer.Taken 0) tx.loc (Phase.R1 word)) (Turn.Refused Answer.NotReady)) }
+pub(crate) fn read(n: usize, tx: Tx, word: u32) -> Result<Turn, Refusal>
+    ensures { result ≡ pick (leb n word) (Err Refusal.NoWord)
+        (pick (is_ready (stage_of tx.phase)) (Ok (turn_of (Taken 0) tx.loc (Phase.R1 word))) (Err Refusal.NotReady)) }
 {
-    if n <= word as usize {
-        return refused(Answer::NoWord);
-    }
+    there(n, word)?;
     invoke(tx, Phase::R1 { word })
 }
 
-pub(crate) fn write(n: usize, tx: Tx, word: u32, value: u32) -> Turn
-    ensures { result ≡ pick (leb n word) (Turn.Refused Answer.NoWord)
-        (pick (is_ready (stage_of tx.phase)) (turn_of (Answer.Taken 0) tx.loc (Phase.W1 word value)) (Turn.Refused Answer.NotReady)) }
+pub(crate) fn write(n: usize, tx: Tx, word: u32, value: u32) -> Result<Turn, Refusal>
+    ensures { result ≡ pick (leb n word) (Err Refusal.NoWord)
+        (pick (is_ready (stage_of tx.phase)) (Ok (turn_of (Taken 0) tx.loc (Phase.W1 word value))) (Err Refusal.NotReady)) }
 {
-    if n <= word as usize {
-        return refused(Answer::NoWord);
-    }
+    there(n, word)?;
     invoke(tx, Phase::W1 { word, value })
 }
 
-pub(crate) fn commit(tx: Tx) -> Turn
-    ensures { result ≡ pick (is_ready (stage_of tx.phase)) (turn_of (Answer.Taken 0) tx.loc Phase.E1) (Turn.Refused Answer.NotReady) }
+pub(crate) fn commit(tx: Tx) -> Result<Turn, Refusal>
+    ensures { result ≡ pick (is_ready (stage_of tx.phase)) (Ok (turn_of (Taken 0) tx.loc Phase.E1)) (Err Refusal.NotReady) }
 {
     invoke(tx, Phase::E1)
 }

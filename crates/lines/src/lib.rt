@@ -7,19 +7,18 @@ mod asks;
 mod transaction;
 pub mod turn;
 
-ghost use Rattle.std.specs.Prelude.{◌≡◌};
+ghost use Rattle.std.specs.Prelude.{◌≡◌, length};
 ghost use Rattle.bits.specs.Marks.{pick};
-ghost use Rattle.dtml.specs.Store.{memory};
-ghost use Rattle.dtml.specs.Checks.{unfit_one};
 ghost use Rattle.dtml.specs.Handed.{call_one};
+ghost use Rattle.parts.specs.Lent.{memory_of, SameRows, unfit_with};
 ghost use Rattle.lines.specs.Turning.{turned_of};
 ghost use Rattle.lines.specs.Stepping.{ask_past, refusal_of};
 
 use crate::transaction::line;
-use crate::turn::{Turn, refused};
-use dtml::{Answer, Ask, Recovery, Tx};
-use marks::Marks;
-use parts::fit::{unfit_beside, unfit_idle, unfit_one, unfit_tx};
+use crate::turn::Turn;
+use dtml::{Ask, Recovery, Refusal, Tx};
+use parts::fit::unfit_tx;
+use parts::memory::Memory;
 use parts::stages::not_idle;
 
 // The call names a word at n or above.
@@ -27,123 +26,74 @@ fn past(n: usize, ask: Ask) -> bool
     ensures { result ≡ ask_past n ask }
 {
     match ask {
-        Ask::Begin => false,
-        Ask::Read { word } => n <= word as usize,
-        Ask::Write { word, value: _ } => n <= word as usize,
-        Ask::Commit => false,
-        Ask::Step => false,
+        Ask::Read { word } | Ask::Write { word, .. } => n <= word as usize,
+        Ask::Begin | Ask::Commit | Ask::Step => false,
     }
 }
 
-// The answer to a call on a record that there is none of: what is unfit is told first. tx is any record; vol, pers and old are the lengths of the three word rows.
-fn nobody(
-    vol: usize,
-    pers: usize,
-    old: usize,
-    marks: &Marks,
-    glb: u32,
-    recovery: Recovery,
-    tx: Tx,
-) -> Answer
-    ensures { result ≡ pick (unfit_one vol pers old marks.now glb recovery tx) Answer.Unfit Answer.NoRecord }
+// Why a call on a record that there is none of is refused: what is unfit is told first. tx is any record.
+fn nobody(memory: &Memory, recovery: Recovery, tx: Tx) -> Refusal
+    ensures { result ≡ pick (unfit_with (memory_of memory.now) recovery tx) Refusal.Unfit Refusal.NoRecord }
 {
-    if unfit_tx(vol, tx) {
-        return Answer::Unfit;
+    if unfit_tx(memory.vol.len(), tx) {
+        return Refusal::Unfit;
     }
-    if unfit_beside(vol, pers, old, marks, glb, recovery) {
-        return Answer::Unfit;
+    if memory.unfit_beside(recovery) {
+        return Refusal::Unfit;
     }
-    Answer::NoRecord
+    Refusal::NoRecord
 }
 
-// Any call on a record while recovery is under way is refused; the lengths as above.
-fn while_recovering(
-    vol: usize,
-    pers: usize,
-    old: usize,
-    marks: &Marks,
-    glb: u32,
-    recovery: Recovery,
-    tx: Tx,
-    ask: Ask,
-) -> Turn
-    ensures { result ≡ Turn.Refused (refusal_of (unfit_one vol pers old marks.now glb recovery tx) (ask_past vol ask)) }
+// Why any call on a record is refused while recovery is under way.
+fn while_recovering(memory: &Memory, recovery: Recovery, tx: Tx, ask: Ask) -> Refusal
+    ensures { result ≡ refusal_of (unfit_with (memory_of memory.now) recovery tx) (ask_past (length memory.now.vol.now) ask) }
 {
-    if unfit_one(vol, pers, old, marks, glb, recovery, tx) {
-        return refused(Answer::Unfit);
+    if memory.unfit_one(recovery, tx) {
+        return Refusal::Unfit;
     }
-    if past(vol, ask) {
-        return refused(Answer::NoWord);
+    if past(memory.vol.len(), ask) {
+        return Refusal::NoWord;
     }
-    refused(Answer::NotIdle)
+    Refusal::NotIdle
 }
 
 // A call on a record that there is: that of identifier 0 or of any other.
-fn call_there(
-    vol: &mut [u32],
-    pers: &mut [u32],
-    old: &mut [u32],
-    marks: &mut Marks,
-    glb: &mut u32,
-    recovery: Recovery,
-    tx: Tx,
-    ask: Ask,
-) -> Turn
-    ensures { turned_of result (memory vol.new pers.new old.new marks.new glb.new)
-        ≡ call_one (memory vol.old pers.old old.old marks.old glb.old) recovery tx 0 ask }
+fn call_there(memory: &mut Memory, recovery: Recovery, tx: Tx, ask: Ask) -> Result<Turn, Refusal>
+    ensures same { SameRows memory.old memory.new }
+    ensures left { turned_of result (memory_of memory.new) ≡ call_one (memory_of memory.old) recovery tx 0 ask }
 {
     if not_idle(recovery) {
-        return while_recovering(
-            vol.len(),
-            pers.len(),
-            old.len(),
-            &*marks,
-            *glb,
-            recovery,
-            tx,
-            ask,
-        );
+        return Err(while_recovering(&*memory, recovery, tx, ask));
     }
-    if unfit_idle(vol.len(), pers.len(), old.len(), &*marks, *glb) {
-        return refused(Answer::Unfit);
+    if memory.unfit_idle() {
+        return Err(Refusal::Unfit);
     }
-    if unfit_tx(vol.len(), tx) {
-        return refused(Answer::Unfit);
+    let n = memory.vol.len();
+    if unfit_tx(n, tx) {
+        return Err(Refusal::Unfit);
     }
     match ask {
         Ask::Begin => asks::begin(tx),
-        Ask::Read { word } => asks::read(vol.len(), tx, word),
-        Ask::Write { word, value } => asks::write(vol.len(), tx, word, value),
+        Ask::Read { word } => asks::read(n, tx, word),
+        Ask::Write { word, value } => asks::write(n, tx, word, value),
         Ask::Commit => asks::commit(tx),
-        Ask::Step => line(vol, pers, old, marks, glb, tx),
+        Ask::Step => line(memory, tx),
     }
 }
 
 // A call on the record of identifier id; where there is none, tx is any record.
 pub fn call_one(
-    vol: &mut [u32],
-    pers: &mut [u32],
-    old: &mut [u32],
-    marks: &mut Marks,
-    glb: &mut u32,
+    memory: &mut Memory,
     recovery: Recovery,
     id: u64,
     tx: Tx,
     ask: Ask,
-) -> Turn
-    ensures { turned_of result (memory vol.new pers.new old.new marks.new glb.new)
-        ≡ call_one (memory vol.old pers.old old.old marks.old glb.old) recovery tx id ask }
+) -> Result<Turn, Refusal>
+    ensures same { SameRows memory.old memory.new }
+    ensures left { turned_of result (memory_of memory.new) ≡ call_one (memory_of memory.old) recovery tx id ask }
 {
     if 64 <= id {
-        return refused(nobody(
-            vol.len(),
-            pers.len(),
-            old.len(),
-            &*marks,
-            *glb,
-            recovery,
-            tx,
-        ));
+        return Err(nobody(&*memory, recovery, tx));
     }
-    call_there(vol, pers, old, marks, glb, recovery, tx, ask)
+    call_there(memory, recovery, tx, ask)
 }

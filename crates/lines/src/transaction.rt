@@ -1,16 +1,16 @@
 // The lines of a transaction, B1 to E3, on its record.
 ghost use Rattle.std.specs.Prelude.{◌≡◌, ◌+◌, ◌<◌, ◌≤◌, length, get_or, set, eqb};
 ghost use Rattle.bits.specs.Marks.{pick, is_marked, mark_of, clear_of};
-ghost use Rattle.dtml.specs.Store.{memory};
 ghost use Rattle.dtml.specs.Lines.{even, flush_of};
+ghost use Rattle.parts.specs.Lent.{memory_of, SameRows};
 ghost use Rattle.lines.specs.Turning.{turn_of, turned_of};
 ghost use Rattle.lines.specs.Room.{Room};
 ghost use Rattle.lines.specs.Stepping.{step_of};
 
-use crate::turn::{Turn, answered, refused, to};
-use dtml::{Answer, Phase, Tx};
+use crate::turn::{Turn, answered, to};
+use dtml::{Answer, Phase, Refusal, Tx};
 use marks::Marks;
-use parts::words::flush_word;
+use parts::memory::Memory;
 
 fn b2(loc: u32) -> Turn
     ensures { result ≡ pick (even loc) (turn_of Answer.Begun loc Phase.Ready) (turn_of (Answer.Taken 0) loc Phase.B1) }
@@ -22,11 +22,11 @@ fn b2(loc: u32) -> Turn
     }
 }
 
-fn r1(vol: &[u32], loc: u32, word: u32) -> Turn
-    requires { word < length vol.now }
-    ensures { result ≡ turn_of (Answer.Taken 0) loc (Phase.R2 (get_or vol.now word 0)) }
+fn r1(memory: &Memory, loc: u32, word: u32) -> Turn
+    requires { word < length memory.now.vol.now }
+    ensures { result ≡ turn_of (Answer.Taken 0) loc (Phase.R2 (get_or memory.now.vol.now word 0)) }
 {
-    let value = vol[word as usize];
+    let value = memory.vol[word as usize];
     to(loc, Phase::R2 { value })
 }
 
@@ -74,15 +74,18 @@ fn w4(marks: &Marks, loc: u32, word: u32, value: u32) -> Turn
 }
 
 // The word is entered in the log with its volatile word.
-fn w5(vol: &[u32], old: &mut [u32], marks: &mut Marks, loc: u32, word: u32, value: u32) -> Turn
-    requires { (word < length vol.now) × (word < length old.old) }
-    ensures { (result ≡ turn_of (Answer.Taken 0) loc (Phase.W6 word value))
-        × (old.new ≡ set old.old word (get_or vol.now word 0))
-        × (marks.new ≡ mark_of marks.old word) }
+fn w5(memory: &mut Memory, loc: u32, word: u32, value: u32) -> Turn
+    requires { (word < length memory.old.vol.now) × (word < length memory.old.old_words.now) }
+    ensures same { SameRows memory.old memory.new }
+    ensures turn { result ≡ turn_of (Answer.Taken 0) loc (Phase.W6 word value) }
+    ensures entered { memory_of memory.new ≡ record (memory_of memory.old) {
+      old = set memory.old.old_words.now word (get_or memory.old.vol.now word 0);
+      marks = mark_of memory.old.marks word;
+    } }
 {
     let i = word as usize;
-    old[i] = vol[i];
-    marks::mark(marks, word as u64);
+    memory.old_words[i] = memory.vol[i];
+    marks::mark(&mut memory.marks, word as u64);
     to(loc, Phase::W6 { word, value })
 }
 
@@ -94,11 +97,13 @@ fn w6(vol: &mut [u32], loc: u32, word: u32, value: u32) -> Turn
     to(loc, Phase::W7 { word })
 }
 
-fn w7(vol: &[u32], pers: &mut [u32], loc: u32, word: u32) -> Turn
-    requires { (word < length vol.now) × (word < length pers.old) }
-    ensures { (result ≡ turn_of Answer.Written loc Phase.Ready) × (pers.new ≡ flush_of vol.now pers.old word) }
+fn w7(memory: &mut Memory, loc: u32, word: u32) -> Turn
+    requires { (word < length memory.old.vol.now) × (word < length memory.old.pers.now) }
+    ensures same { SameRows memory.old memory.new }
+    ensures turn { result ≡ turn_of Answer.Written loc Phase.Ready }
+    ensures flushed { memory_of memory.new ≡ record (memory_of memory.old) { pers = flush_of memory.old.vol.now memory.old.pers.now word } }
 {
-    flush_word(vol, pers, word as usize);
+    memory.flush_word(word as usize);
     answered(Answer::Written, loc, Phase::Ready)
 }
 
@@ -128,38 +133,29 @@ fn e3(glb: &mut u32, loc: u32) -> Turn
 }
 
 // One line, the one at which the record stands; where there is none it is refused.
-pub(crate) fn line(
-    vol: &mut [u32],
-    pers: &mut [u32],
-    old: &mut [u32],
-    marks: &mut Marks,
-    glb: &mut u32,
-    tx: Tx,
-) -> Turn
-    requires { Room vol.old pers.old old.old glb.old tx }
-    ensures { turned_of result (memory vol.new pers.new old.new marks.new glb.new)
-        ≡ step_of (memory vol.old pers.old old.old marks.old glb.old) tx }
+pub(crate) fn line(memory: &mut Memory, tx: Tx) -> Result<Turn, Refusal>
+    requires { Room (memory_of memory.old) tx }
+    ensures same { SameRows memory.old memory.new }
+    ensures stepped { turned_of result (memory_of memory.new) ≡ step_of (memory_of memory.old) tx }
 {
     let loc = tx.loc;
-    let phase = tx.phase;
-    match phase {
-        Phase::Fresh => refused(Answer::NoLine),
-        Phase::Ready => refused(Answer::NoLine),
-        Phase::Committed => refused(Answer::NoLine),
-        Phase::Aborted => refused(Answer::NoLine),
-        Phase::B1 => to(*glb, Phase::B2),
+    Ok(match tx.phase {
+        Phase::Fresh | Phase::Ready | Phase::Committed | Phase::Aborted => {
+            return Err(Refusal::NoLine);
+        }
+        Phase::B1 => to(memory.glb, Phase::B2),
         Phase::B2 => b2(loc),
-        Phase::R1 { word } => r1(&*vol, loc, word),
-        Phase::R2 { value } => r2(*glb, loc, value),
+        Phase::R1 { word } => r1(&*memory, loc, word),
+        Phase::R2 { value } => r2(memory.glb, loc, value),
         Phase::W1 { word, value } => w1(loc, word, value),
-        Phase::W2 { word, value } => w2(glb, loc, word, value),
+        Phase::W2 { word, value } => w2(&mut memory.glb, loc, word, value),
         Phase::W3 { word, value } => to(loc + 1, Phase::W4 { word, value }),
-        Phase::W4 { word, value } => w4(&*marks, loc, word, value),
-        Phase::W5 { word, value } => w5(&*vol, old, marks, loc, word, value),
-        Phase::W6 { word, value } => w6(vol, loc, word, value),
-        Phase::W7 { word } => w7(&*vol, pers, loc, word),
+        Phase::W4 { word, value } => w4(&memory.marks, loc, word, value),
+        Phase::W5 { word, value } => w5(memory, loc, word, value),
+        Phase::W6 { word, value } => w6(&mut *memory.vol, loc, word, value),
+        Phase::W7 { word } => w7(memory, loc, word),
         Phase::E1 => e1(loc),
-        Phase::E2 => e2(marks, loc),
-        Phase::E3 => e3(glb, loc),
-    }
+        Phase::E2 => e2(&mut memory.marks, loc),
+        Phase::E3 => e3(&mut memory.glb, loc),
+    })
 }

@@ -2,48 +2,36 @@
 ghost use Rattle.std.specs.Prelude.{◌≡◌};
 ghost use Rattle.dtml.specs.Table.{reply};
 
-use dtml::Answer;
+use dtml::{Answer, Answered, Refusal};
 
-pub fn number(a: Answer) -> u64
+pub fn number(a: Answered) -> u64
     ensures { result ≡ (reply a).number }
 {
     match a {
-        Answer::Taken { lines: _ } => 0,
-        Answer::Begun => 1,
-        Answer::Read { value: _ } => 2,
-        Answer::Written => 3,
-        Answer::Committed => 4,
-        Answer::Aborted => 5,
-        Answer::Recovered { lines: _ } => 6,
-        Answer::Unfit => 9,
-        Answer::NoWord => 10,
-        Answer::NoRecord => 11,
-        Answer::NotIdle => 12,
-        Answer::NotFresh => 13,
-        Answer::NotReady => 14,
-        Answer::NoLine => 15,
-        Answer::Idle => 16,
+        Ok(Answer::Taken { .. }) => 0,
+        Ok(Answer::Begun) => 1,
+        Ok(Answer::Read { .. }) => 2,
+        Ok(Answer::Written) => 3,
+        Ok(Answer::Committed) => 4,
+        Ok(Answer::Aborted) => 5,
+        Ok(Answer::Recovered { .. }) => 6,
+        Err(Refusal::Unfit) => 9,
+        Err(Refusal::NoWord) => 10,
+        Err(Refusal::NoRecord) => 11,
+        Err(Refusal::NotIdle) => 12,
+        Err(Refusal::NotFresh) => 13,
+        Err(Refusal::NotReady) => 14,
+        Err(Refusal::NoLine) => 15,
+        Err(Refusal::Idle) => 16,
     }
 }
 
-pub fn value(a: Answer) -> u64
+pub fn value(a: Answered) -> u64
     ensures { result ≡ (reply a).value }
 {
     match a {
-        Answer::Taken { lines } => lines,
-        Answer::Begun => 0,
-        Answer::Read { value } => value as u64,
-        Answer::Written => 0,
-        Answer::Committed => 0,
-        Answer::Aborted => 0,
-        Answer::Recovered { lines } => lines,
-        Answer::Unfit => 0,
-        Answer::NoWord => 0,
-        Answer::NoRecord => 0,
-        Answer::NotIdle => 0,
-        Answer::NotFresh => 0,
-        Answer::NotReady => 0,
-        Answer::NoLine => 0,
-        Answer::Idle => 0,
+        Ok(Answer::Taken { lines } | Answer::Recovered { lines }) => lines,
+        Ok(Answer::Read { value }) => value as u64,
+        _ => 0,
     }
 }

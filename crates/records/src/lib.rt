@@ -3,8 +3,6 @@
 
 #![tactic(auto)]
 
-mod bounds;
-
 ghost use Rattle.std.specs.Prelude.{◌≡◌, not, [], ◌∷◌, length, set, eqb};
 ghost use Rattle.bits.specs.Marks.{pick};
 ghost use Rattle.dtml.specs.Store.{record_at};
@@ -13,20 +11,14 @@ ghost use Rattle.dtml.specs.First.{any_of};
 ghost use Rattle.dtml.specs.Checks.{unfit_txs};
 ghost use Rattle.records.specs.Row.{stored_if};
 
-use crate::bounds::{all_if, either, if_64, worse};
-use dtml::{Phase, Tx};
+use dtml::Tx;
+use parts::fit::unfit_tx;
 use system::crash_tx;
 
 pub fn get(txs: &[Tx], i: usize) -> Tx
     ensures { result ≡ record_at txs.now i }
 {
-    if i < txs.len() {
-        return txs[i];
-    }
-    Tx {
-        loc: 0,
-        phase: Phase::Fresh,
-    }
+    txs.get(i).copied().unwrap_or(Tx::FRESH)
 }
 
 pub fn put(txs: &mut [Tx], i: usize, tx: Tx)
@@ -38,39 +30,40 @@ pub fn put(txs: &mut [Tx], i: usize, tx: Tx)
 }
 
 // The row is not 64 long, or some record of it is unfit beside rows of n words.
+#[tactic(auto, using(crate::proofs::Over::looking))]
 pub fn unfit(txs: &[Tx], n: usize) -> bool
     ensures { result ≡ any_of (not (eqb (length txs.now) 64) ∷ unfit_txs n txs.now ∷ []) }
 {
-    let end = if_64(txs.len());
-    let mut bad = false;
-    let mut i: usize = 0;
-    while i < end {
-        bad = worse(bad, n, txs[i]);
-        i += 1;
+    if txs.len() != 64 {
+        return true;
     }
-    either(txs.len(), bad)
+    for tx in txs {
+        if unfit_tx(n, *tx) {
+            return true;
+        }
+    }
+    false
 }
 
 // If there was a crash, what it leaves of the records.
+#[tactic(auto, using(crate::proofs::Over::crashing))]
 pub fn crash_if(txs: &mut [Tx], crashed: bool)
     ensures { txs.new ≡ pick crashed (crash_txs txs.old) txs.old }
 {
-    let end = all_if(crashed, txs.len());
-    let mut i: usize = 0;
-    while i < end {
-        txs[i] = crash_tx(txs[i]);
-        i += 1;
+    if crashed {
+        for tx in txs.iter_mut() {
+            *tx = crash_tx(*tx);
+        }
     }
 }
 
-// If they are to be changed, the records of row, over a lent row of 64.
-pub fn store_if(txs: &mut [Tx], changed: bool, row: [Tx; 64])
-    ensures { txs.new ≡ stored_if changed row txs.old }
+// The records of row, if there are any, over a lent row of 64.
+pub fn store_if(txs: &mut [Tx], row: Option<[Tx; 64]>)
+    ensures { txs.new ≡ stored_if row txs.old }
 {
-    let end = all_if(changed, if_64(txs.len()));
-    let mut i: usize = 0;
-    while i < end {
-        txs[i] = row[i];
-        i += 1;
+    if let Some(row) = row {
+        if txs.len() == 64 {
+            txs.copy_from_slice(&row);
+        }
     }
 }

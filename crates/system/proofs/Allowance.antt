@@ -2,10 +2,9 @@
 -- A line takes one from what is left and adds one to the lines carried out; where recovery is idle or nothing is left, what is answered so far stands.
 use Prim.Native.Nat.{ℕ, suc, ◌+◌, ◌-◌, ◌≤◌, ◌<◌}
 use mathlib.Core.Bool.{true, false}
-use mathlib.Core.Path.{◌≡◌, refl, ◌∙◌}
+use mathlib.Core.Path.{◌≡◌, ◌∙◌}
 use native.Mathlib.Nat.{sub-zero}
 use native.Mathlib.Omega.{arith}
-use lib.ListN.{length}
 use Rattle.bits.specs.Marks.{pick}
 use Rattle.dtml.specs.declared.Answer.TheVariants.{Taken, Recovered}
 use Rattle.dtml.specs.declared.Recovery.{Recovery}
@@ -25,14 +24,12 @@ rest b n m r = up_to (b - n) (says (pick (not_idle r) 0 6) n) m r
 
 pub record Going (b n : ℕ) (m₀ m : Memory) (r₀ r : Recovery) : Type 0 where
   pub within : n ≤ b
-  pub vol-long : length m.vol ≡ length m₀.vol
-  pub pers-long : length m.pers ≡ length m₀.pers
   pub fit : unfit_memory m r ≡ false
   pub comes-to : rest b n m r ≡ up_to b (says 0 0) m₀ r₀
 
 pub going_start : (b : ℕ) (m : Memory) (r : Recovery) → unfit_memory m r ≡ false → not_idle r ≡ true → Going b 0 m m r r
 going_start b m r f i =
-    record { within = omega arith; vol-long = refl; pers-long = refl; fit = f; comes-to = rw (i, sub-zero b) }
+    record { within = omega arith; fit = f; comes-to = rw (i, sub-zero b) }
 
 -- one line more, which left h
 rest_more : (b n : ℕ) (m : Memory) (r : Recovery) (h : RecoveryDid) → h ≡ recovery_line m r → not_idle r ≡ true
@@ -43,13 +40,11 @@ line-fit : (m : Memory) (r : Recovery) (h : RecoveryDid) → h ≡ recovery_line
 line-fit m r h e f = rw e (keeps m r f)
 
 pub going_more : {b n : ℕ} {m₀ m : Memory} {r₀ r : Recovery} (h : RecoveryDid) → Going b n m₀ m r₀ r → n < b → not_idle r ≡ true → h ≡ recovery_line m r
-    → length h.mem.vol ≡ length m.vol → length h.mem.pers ≡ length m.pers → Going b (n + 1) m₀ h.mem r₀ h.rec
-going_more {b} {n} {m₀} {m} {r₀} {r} h g below i e vol pers =
+    → Going b (n + 1) m₀ h.mem r₀ h.rec
+going_more {b} {n} {m₀} {m} {r₀} {r} h g below i e =
     let left : b - n ≡ suc (b - (n + 1)) = omega arith in
     record {
       within = omega arith;
-      vol-long = vol ∙ g.vol-long;
-      pers-long = pers ∙ g.pers-long;
       fit = line-fit m r h e g.fit;
       comes-to = rest_more (b - (n + 1)) n m r h e i ∙ (rw left at g.comes-to);
     }
@@ -62,8 +57,10 @@ pub going-idle : {b n : ℕ} {m₀ m : Memory} {r₀ r : Recovery} → Going b n
 going-idle {b} {n} {m₀} {m} {r₀} {r} g i =
     rw (reply-pick (not_idle r) n, ← (up-to-idle (b - n) (says (pick (not_idle r) 0 6) n) m r i)) g.comes-to
 
-pub going-spent : {b n : ℕ} {m₀ m : Memory} {r₀ r : Recovery} → Going b n m₀ m r₀ r → b ≤ n → so_far n m r ≡ up_to b (says 0 0) m₀ r₀
+-- all of the allowance is spent
+pub going-spent : {b n : ℕ} {m₀ m : Memory} {r₀ r : Recovery} → Going b n m₀ m r₀ r → b ≤ n → so_far b m r ≡ up_to b (says 0 0) m₀ r₀
 unfolding up_to
 going-spent {b} {n} {m₀} {m} {r₀} {r} g spent =
     let none : b - n ≡ 0 = omega arith in
-    rw (reply-pick (not_idle r) n) (rw none at g.comes-to)
+    let all : n ≡ b = let within = g.within in omega arith in
+    rw (reply-pick (not_idle r) b) (rw (none, all) at g.comes-to)

@@ -1,4 +1,5 @@
 -- What the proofs of recovery share.
 mod Allowance
 mod Named
+mod Refused
 mod Tests

@@ -3,6 +3,7 @@ use Prim.Native.Nat.{ℕ}
 use mathlib.Core.Path.{◌≡◌, refl}
 use mathlib.Core.Bool.{Bool, true, false}
 use Rattle.bits.specs.Marks.{pick}
+use Rattle.std.specs.Prelude.{Ok}
 use Rattle.dtml.specs.declared.Answer.TheVariants.{Taken, Recovered}
 use Rattle.dtml.specs.declared.Recovery.{Recovery}
 use Rattle.dtml.specs.Table.{reply, says}
@@ -13,6 +14,6 @@ pub recover-to-pick : (b : Bool) (r s : Recovery) (m : Memory) → recover_to m 
 recover-to-pick true r s m = refl
 recover-to-pick false r s m = refl
 
-pub reply-pick : (b : Bool) (n : ℕ) → reply (pick b (Taken n) (Recovered n)) ≡ says (pick b 0 6) n
+pub reply-pick : (b : Bool) (n : ℕ) → reply (Ok (pick b (Taken n) (Recovered n))) ≡ says (pick b 0 6) n
 reply-pick true n = refl
 reply-pick false n = refl

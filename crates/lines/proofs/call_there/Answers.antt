@@ -4,20 +4,18 @@ use Rattle.lines.proofs.Room.{room}
 use Rattle.lines.proofs.Called.{recovering, unfit-beside, unfit-record, fit, begins, reads, writes, commits, steps}
 use Rattle.lines.proofs.call_there.Goals as goal
 
-pub returns-then-not_idle : goal.returns-then-not_idle
-returns-then-not_idle c =
+pub returns-then-not_idle-clause-left : goal.returns-then-not_idle-clause-left
+returns-then-not_idle-clause-left c =
     rw c.while_recovering.ensures (recovering _ _ _ _ (sym c.not_idle.ensures ∙ c.if-not_idle.true))
 
-pub returns-then-unfit_idle : goal.returns-then-unfit_idle
-returns-then-unfit_idle c =
-    rw c.refused.ensures
+pub returns-then-unfit_idle-clause-left : goal.returns-then-unfit_idle-clause-left
+returns-then-unfit_idle-clause-left c =
     (unfit-beside _ _ _ _
     (sym c.not_idle.ensures ∙ c.if-not_idle.false)
     (sym c.unfit_idle.ensures ∙ c.if-unfit_idle.true))
 
-pub returns-then-unfit_tx : goal.returns-then-unfit_tx
-returns-then-unfit_tx c =
-    rw c.refused-then-unfit_tx.ensures
+pub returns-then-unfit_tx-clause-left : goal.returns-then-unfit_tx-clause-left
+returns-then-unfit_tx-clause-left c =
     (unfit-record _ _ _ _
     (sym c.not_idle.ensures ∙ c.if-not_idle.false)
     (sym c.unfit_idle.ensures ∙ c.if-unfit_idle.false)
@@ -25,10 +23,10 @@ returns-then-unfit_tx c =
 
 pub line-requires : goal.line-requires
 line-requires c =
-    room _ _ _ _ _ _ (sym c.unfit_idle.ensures ∙ c.if-unfit_idle.false) (sym c.unfit_tx.ensures ∙ c.if-unfit_tx.false)
+    room _ _ (sym c.unfit_idle.ensures ∙ c.if-unfit_idle.false) (sym c.unfit_tx.ensures ∙ c.if-unfit_tx.false)
 
-pub returns-in-Begin : goal.returns-in-Begin
-returns-in-Begin c =
+pub returns-in-Begin-clause-left : goal.returns-in-Begin-clause-left
+returns-in-Begin-clause-left c =
     rw (c.in-Begin.is, c.begin.ensures)
     (begins _ _ _
     (fit
@@ -39,8 +37,8 @@ returns-in-Begin c =
     c.unfit_tx.ensures
     c.if-unfit_tx.false))
 
-pub returns-in-Read : goal.returns-in-Read
-returns-in-Read c =
+pub returns-in-Read-clause-left : goal.returns-in-Read-clause-left
+returns-in-Read-clause-left c =
     rw (c.in-Read.is, c.read.ensures)
     (reads _ _ _ _
     (fit
@@ -51,8 +49,8 @@ returns-in-Read c =
     c.unfit_tx.ensures
     c.if-unfit_tx.false))
 
-pub returns-in-Write : goal.returns-in-Write
-returns-in-Write c =
+pub returns-in-Write-clause-left : goal.returns-in-Write-clause-left
+returns-in-Write-clause-left c =
     rw (c.in-Write.is, c.write.ensures)
     (writes _ _ _ _ _
     (fit
@@ -63,8 +61,8 @@ returns-in-Write c =
     c.unfit_tx.ensures
     c.if-unfit_tx.false))
 
-pub returns-in-Commit : goal.returns-in-Commit
-returns-in-Commit c =
+pub returns-in-Commit-clause-left : goal.returns-in-Commit-clause-left
+returns-in-Commit-clause-left c =
     rw (c.in-Commit.is, c.commit.ensures)
     (commits _ _ _
     (fit
@@ -75,10 +73,10 @@ returns-in-Commit c =
     c.unfit_tx.ensures
     c.if-unfit_tx.false))
 
-pub returns-in-Step : goal.returns-in-Step
-returns-in-Step c =
+pub returns-in-Step-clause-left : goal.returns-in-Step-clause-left
+returns-in-Step-clause-left c =
     rw c.in-Step.is
-    (c.line.ensures ∙
+    (c.line.ensures.stepped ∙
     steps _ _ _
     (fit
     c.not_idle.ensures

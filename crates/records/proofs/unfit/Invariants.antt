@@ -1,10 +1,7 @@
--- After i turns the first i records have been looked at. The measure is the records left.
-use Rattle.std.proofs.Common.{◌≡◌, ◌≤◌, ◌-◌, take}
+-- What is unfit among the records still to come is what is unfit among all.
+use Rattle.std.proofs.Common.{◌≡◌, drop}
 use Rattle.dtml.specs.Checks.{unfit_txs}
 use Rattle.records.proofs.unfit.Given as goal
 
-abbrev pub invariant-loop-i : goal.invariant-loop-i
-invariant-loop-i l = (l.i ≤ l.end) × (l.bad ≡ unfit_txs l.n (take l.i l.txs))
-
-abbrev pub decreases-loop-i : goal.decreases-loop-i
-decreases-loop-i l = l.end - l.i
+abbrev pub invariant-loop-tx : goal.invariant-loop-tx
+invariant-loop-tx l = unfit_txs l.n (drop l.tx-index l.txs) ≡ unfit_txs l.n l.txs

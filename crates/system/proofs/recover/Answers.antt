@@ -1,19 +1,18 @@
--- `system::recover` meets its contract: each return is the case of the tests that it is under; what is left after both is what the recovery line leaves.
-use mathlib.Core.Path.{ap}
+-- `system::recover` meets its contract: it is refused where `recovers` says so; else what is left is what the recovery line leaves.
+use Rattle.std.proofs.Common.{ap, sym, ◌∙◌}
+use Rattle.std.proofs.lemmas.Result.{err_from_is_err_and}
 use Rattle.dtml.specs.Handed.{call_system, some-lines}
+use Rattle.system.proofs.Refused.{refused-so, taken-so}
 use Rattle.system.proofs.recover.Goals as goal
 
-pub returns-then-unfit_beside : goal.returns-then-unfit_beside
+pub returns-in_err-recovers-clause-left : goal.returns-in_err-recovers-clause-left
 unfolding call_system
-returns-then-unfit_beside c = rw (c.refused.ensures, ← c.unfit_beside.ensures, c.if-unfit_beside.true)
+returns-in_err-recovers-clause-left c =
+    let p = err_from_is_err_and c.from_residual.result c.from_residual.ensures.1 in
+    rw (p.1, p.2) (refused-so _ _ _ _ _ (sym c.recovers.ensures ∙ c.in_err-recovers.was))
 
-pub returns-then-not-not_idle : goal.returns-then-not-not_idle
+pub returns-clause-left : goal.returns-clause-left
 unfolding call_system
-returns-then-not-not_idle c =
-    rw (c.refused-then-not-not_idle.ensures, ← c.unfit_beside.ensures, c.if-unfit_beside.false, ← c.not_idle.ensures, c.if-not-not_idle.true)
-
-pub returns : goal.returns
-unfolding call_system
-returns c =
-    rw (c.lines_done.ensures, ← c.unfit_beside.ensures, c.if-unfit_beside.false, ← c.not_idle.ensures, c.if-not-not_idle.false)
-    (ap (some-lines 1) c.recovery_line.ensures)
+returns-clause-left c =
+    rw c.lines_done.ensures
+    (ap (some-lines 1) c.recovery_line.ensures.left ∙ taken-so _ _ _ _ (sym c.recovers.ensures ∙ c.in_ok-recovers.was))

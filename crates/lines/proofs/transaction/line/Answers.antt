@@ -6,82 +6,81 @@ use Rattle.dtml.specs.Lines.{line_at, even}
 use Rattle.lines.proofs.Tests.{turned-pick, turned-pick-glb}
 use Rattle.lines.proofs.transaction.line.Goals as goal
 
-pub returns-in-B1 : goal.returns-in-B1
+pub returns-in-B1-clause-stepped : goal.returns-in-B1-clause-stepped
 unfolding line_at
-returns-in-B1 c = rw (c.in-B1.is, c.to.ensures)
+returns-in-B1-clause-stepped c = rw (c.in-B1.is, c.to.ensures)
 
-pub returns-in-B2 : goal.returns-in-B2
+pub returns-in-B2-clause-stepped : goal.returns-in-B2-clause-stepped
 unfolding line_at
-returns-in-B2 c =
+returns-in-B2-clause-stepped c =
     let given = c.args in
-    rw (c.in-B2.is, c.b2.ensures) (turned-pick (even given.tx.loc) _ _ _ _ _)
+    rw (c.in-B2.is, c.b2.ensures) (turned-pick (even given.tx.loc) _ _ _)
 
-pub returns-in-R1 : goal.returns-in-R1
+pub returns-in-R1-clause-stepped : goal.returns-in-R1-clause-stepped
 unfolding line_at
-returns-in-R1 c = rw (c.in-R1.is, c.r1.ensures)
+returns-in-R1-clause-stepped c = rw (c.in-R1.is, c.r1.ensures)
 
-pub returns-in-R2 : goal.returns-in-R2
+pub returns-in-R2-clause-stepped : goal.returns-in-R2-clause-stepped
 unfolding line_at
-returns-in-R2 c =
+returns-in-R2-clause-stepped c =
     let given = c.args in
-    rw (c.in-R2.is, c.r2.ensures) (turned-pick (eqb given.glb.now given.tx.loc) _ _ _ _ _)
+    rw (c.in-R2.is, c.r2.ensures) (turned-pick (eqb given.memory.now.glb given.tx.loc) _ _ _)
 
-pub returns-in-W1 : goal.returns-in-W1
+pub returns-in-W1-clause-stepped : goal.returns-in-W1-clause-stepped
 unfolding line_at
-returns-in-W1 c =
+returns-in-W1-clause-stepped c =
     let given = c.args in
-    rw (c.in-W1.is, c.w1.ensures) (turned-pick (even given.tx.loc) _ _ _ _ _)
+    rw (c.in-W1.is, c.w1.ensures) (turned-pick (even given.tx.loc) _ _ _)
 
-pub returns-in-W2 : goal.returns-in-W2
+pub returns-in-W2-clause-stepped : goal.returns-in-W2-clause-stepped
 unfolding line_at
-returns-in-W2 c =
+returns-in-W2-clause-stepped c =
     let given = c.args in
-    rw (c.in-W2.is, c.w2.ensures.0, c.w2.ensures.1) (turned-pick-glb (eqb given.glb.now given.tx.loc) _ _ _ _ _ _ _ _ _ _)
+    rw (c.in-W2.is, c.w2.ensures.0, c.w2.ensures.1) (turned-pick-glb (eqb given.memory.now.glb given.tx.loc) _ _ _ _ _ _ _ _)
 
-pub returns-in-W3 : goal.returns-in-W3
+pub returns-in-W3-clause-stepped : goal.returns-in-W3-clause-stepped
 unfolding line_at
-returns-in-W3 c = rw (c.in-W3.is, c.to-in-W3.ensures)
+returns-in-W3-clause-stepped c = rw (c.in-W3.is, c.to-in-W3.ensures)
 
-pub returns-in-W4 : goal.returns-in-W4
+pub returns-in-W4-clause-stepped : goal.returns-in-W4-clause-stepped
 unfolding line_at
-returns-in-W4 c =
+returns-in-W4-clause-stepped c =
     let given = c.args in
-    rw (c.in-W4.is, c.w4.ensures) (turned-pick (is_marked given.marks.now c.in-W4.word) _ _ _ _ _)
+    rw (c.in-W4.is, c.w4.ensures) (turned-pick (is_marked given.memory.now.marks c.in-W4.word) _ _ _)
 
-pub returns-in-W5 : goal.returns-in-W5
+pub returns-in-W5-clause-stepped : goal.returns-in-W5-clause-stepped
 unfolding line_at
-returns-in-W5 c =
+returns-in-W5-clause-stepped c =
     rw (
       c.in-W5.is,
-      c.w5.ensures.0,
-      c.w5.ensures.1,
-      c.w5.ensures.2,
+      c.w5.ensures.turn,
+      c.w5.ensures.entered,
     )
 
-pub returns-in-W6 : goal.returns-in-W6
+pub returns-in-W6-clause-stepped : goal.returns-in-W6-clause-stepped
 unfolding line_at
-returns-in-W6 c =
+returns-in-W6-clause-stepped c =
     rw (c.in-W6.is, c.w6.ensures.0, c.w6.ensures.1)
 
-pub returns-in-W7 : goal.returns-in-W7
+pub returns-in-W7-clause-stepped : goal.returns-in-W7-clause-stepped
 unfolding line_at
-returns-in-W7 c =
+returns-in-W7-clause-stepped c =
     rw (
       c.in-W7.is,
-      c.w7.ensures.0,
-      c.w7.ensures.1,
+      c.w7.ensures.turn,
+      c.w7.ensures.flushed,
     )
 
-pub returns-in-E1 : goal.returns-in-E1
+pub returns-in-E1-clause-stepped : goal.returns-in-E1-clause-stepped
 unfolding line_at
-returns-in-E1 c =
+returns-in-E1-clause-stepped c =
     let given = c.args in
-    rw (c.in-E1.is, c.e1.ensures) (turned-pick (even given.tx.loc) _ _ _ _ _)
+    rw (c.in-E1.is, c.e1.ensures) (turned-pick (even given.tx.loc) _ _ _)
 
-pub returns-in-E2 : goal.returns-in-E2
+pub returns-in-E2-clause-stepped : goal.returns-in-E2-clause-stepped
 unfolding line_at
-returns-in-E2 c = rw (c.in-E2.is, c.e2.ensures.0, c.e2.ensures.1)
+returns-in-E2-clause-stepped c = rw (c.in-E2.is, c.e2.ensures.0, c.e2.ensures.1)
 
-pub returns-in-E3 : goal.returns-in-E3
+pub returns-in-E3-clause-stepped : goal.returns-in-E3-clause-stepped
 unfolding line_at
-returns-in-E3 c = rw (c.in-E3.is, c.e3.ensures.0, c.e3.ensures.1)
+returns-in-E3-clause-stepped c = rw (c.in-E3.is, c.e3.ensures.0, c.e3.ensures.1)

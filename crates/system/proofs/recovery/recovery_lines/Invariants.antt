@@ -1,12 +1,8 @@
--- `system::recovery::recovery_lines` meets its contract. The loop's invariant: the store stays fit, and what is left of the allowance, from where recovery stands, comes to what all of it comes to from the start.
--- The measure is what is left of the allowance.
-use Prim.Native.Nat.{◌-◌}
-use Rattle.dtml.specs.Store.{memory}
+-- `system::recovery::recovery_lines` meets its contract. The loop's invariant: the rows stay those that were lent, the store stays fit, and what is left of the
+-- allowance, from where recovery stands, comes to what all of it comes to from the start.
+use Rattle.parts.specs.Lent.{memory_of, SameRows}
 use Rattle.system.proofs.Allowance.{Going}
 use Rattle.system.proofs.recovery.recovery_lines.Given as goal
 
 abbrev pub invariant-loop-lines : goal.invariant-loop-lines
-invariant-loop-lines l = Going l.allowance l.lines (memory l.initial.vol l.initial.pers l.old l.initial.marks l.initial.glb) (memory l.vol l.pers l.old l.marks l.glb) l.initial.at l.at
-
-abbrev pub decreases-loop-lines : goal.decreases-loop-lines
-decreases-loop-lines l = l.allowance - l.lines
+invariant-loop-lines l = SameRows l.initial.memory l.memory × Going l.allowance l.lines (memory_of l.initial.memory) (memory_of l.memory) l.initial.at l.at
