@@ -10,7 +10,7 @@ use lib.ListN.{length, replicate, length-replicate}
 use lib.Dec.{eqb}
 use Rattle.std.specs.Prelude.{Result, Ok, Err, Some, None}
 use Rattle.bits.specs.Marks.{pick}
-use Rattle.dtml.specs.declared.Answer.TheVariants.{Taken}
+use Rattle.dtml.specs.declared.Refusal.{Refusal}
 use Rattle.dtml.specs.declared.Phase.TheVariants.{Fresh}
 use Rattle.dtml.specs.declared.Tx.{Tx}
 use Rattle.dtml.specs.Store.{Store, fresh, tx}
@@ -18,7 +18,6 @@ use Rattle.dtml.specs.First.{any_of}
 use Rattle.dtml.specs.Checks.{unfit_rows}
 use Rattle.dtml.proofs.Fit.{last, none}
 use Rattle.machine.specs.declared.Held.{Held}
-use Rattle.machine.specs.declared.work.Made.{Made}
 use Rattle.machine.specs.Given.{store_of}
 use Rattle.machine.specs.Working.{fresh_held, Renewed, renewed, renewed_of}
 use Rattle.reader.specs.declared.TraceRefusal.{TraceRefusal}
@@ -148,23 +147,25 @@ module _ (bs vol pers old out : List ℕ) (held : Held) (n : ℕ) (got : Result 
     sound : (words ≡ words_of bs) × (0 < words_of bs) × (words_of bs ≤ 256) × (3 ≤ length bs) × (length bs ≤ 65536)
     sound = header-sound bs words fits.0
 
-    made : renewed vol pers old held n
-        ≡ renewed_of (record { after = record { answer = Taken 0; held = fresh_held }; made = true }) (replicate (length vol) 0) (replicate (length vol) 0) (replicate (length vol) 0)
+    made : renewed vol pers old n ≡ renewed_of (Ok tt) (replicate (length vol) 0) (replicate (length vol) 0) (replicate (length vol) 0)
     unfolding renewed unfit_rows
     made =
         let k = sound in
         rw (fits.1.0 ∙ sound.0, fits.1.1 ∙ sound.0, fits.1.2 ∙ sound.0, fits.1.3, eq-eqb (words_of bs) (words_of bs) refl, ne_eqb (words_of bs) 0 (omega arith), le-ltb 256 (words_of bs) k.2)
 
     -- the store is fresh as the first record finds it
-    module _ (vol' pers' old' : List ℕ) (x : Made) (e : renewed_of x vol' pers' old' ≡ renewed vol pers old held n) where
-      is-fresh : store_of vol' pers' old' x.after.held (replicate 64 (tx 0 Fresh)) ≡ fresh (length vol)
+    module _ (vol' pers' old' : List ℕ) (x : Result (Unit {0}) Refusal) (e : renewed_of x vol' pers' old' ≡ renewed vol pers old n) where
+      pub renews : x ≡ Ok tt
+      renews = ap (λ (y : Renewed). y.made) (e ∙ made)
+
+      is-fresh : store_of vol' pers' old' fresh_held (replicate 64 (tx 0 Fresh)) ≡ fresh (length vol)
       unfolding fresh
-      is-fresh = ap (λ (y : Renewed). store_of y.vol y.pers y.old y.made.after.held (replicate 64 (tx 0 Fresh))) (e ∙ made)
+      is-fresh = ap (λ (y : Renewed). store_of y.vol y.pers y.old fresh_held (replicate 64 (tx 0 Fresh))) (e ∙ made)
 
       pub fresh-long : length vol' ≡ length vol
       fresh-long = ap (λ (y : Renewed). length y.vol) (e ∙ made) ∙ length-replicate (length vol) 0
 
-      pub fresh-rows : (store_of vol' pers' old' x.after.held (replicate 64 (tx 0 Fresh)) ≡ fresh (length vol'))
+      pub fresh-rows : (store_of vol' pers' old' fresh_held (replicate 64 (tx 0 Fresh)) ≡ fresh (length vol'))
           × (1 ≤ length vol') × (length vol' ≤ 256) × (3 ≤ length bs) × (length bs ≤ 65536)
       fresh-rows =
           let k = sound in
