@@ -8,13 +8,15 @@ use mathlib.Core.List.{List, [], ◌∷◌}
 use lib.ListN.{length, set, replicate}
 use lib.Seq.{set-get_or}
 use lib.Dec.{eqb, ltb}
+use Rattle.std.specs.Prelude.{Result, Ok, Err, Some}
 use Rattle.bits.specs.Marks.{pick}
-use Rattle.dtml.specs.declared.Answer.TheVariants.{Taken, Unfit}
+use Rattle.dtml.specs.declared.Answer.TheVariants.{Taken}
+use Rattle.dtml.specs.declared.Refusal.{Refusal}
 use Rattle.dtml.specs.declared.Phase.TheVariants.{Fresh}
 use Rattle.dtml.specs.declared.Recovery.{Recovery}
 use Rattle.dtml.specs.declared.Tx.{Tx}
-use Rattle.dtml.specs.Table.{says}
-use Rattle.dtml.specs.Store.{Memory, Store, memory, store, fresh, tx, record_at}
+use Rattle.dtml.specs.Table.{Reply, says}
+use Rattle.dtml.specs.Store.{Memory, memory, Store, store, fresh, tx, record_at}
 use Rattle.dtml.specs.Lines.{crash_txs}
 use Rattle.dtml.specs.declared.Ask.{Ask}
 use Rattle.dtml.specs.declared.Sys.{Sys}
@@ -34,53 +36,39 @@ use Rattle.system.specs.Recovering.{happened_of}
 use Rattle.records.specs.Row.{stored_if}
 use Rattle.machine.specs.declared.Held.{Held}
 use Rattle.machine.specs.declared.work.Worked.{Worked}
-use Rattle.machine.specs.declared.work.Made.{Made}
 use Rattle.machine.specs.Given.{store_of, outcome_of}
-use Rattle.machine.specs.Working.{Work, work_of, worked, worked_of, beside, turn_worked, event_worked, fresh_held, Renewed, renewed, renewed_of}
+use Rattle.machine.specs.Working.{Work, work_of, worked, worked_of, turn_worked, event_worked, fresh_held, Renewed, renewed, renewed_of}
 
 -- ---- the ways of `work`
 
--- what a call on one record, or on none, gave back, beside the rows and the values that it left
-turn-left : (u : Turn) (v p o k : List ℕ) (g : ℕ) (r : Recovery) (t : Tx)
-    → worked_of (turn_worked u k g r t) v p o ≡ work_of (turn_left r t (turned_of u (memory v p o k g))) false
-turn-left (Turn.Refused a) v p o k g r t = refl
-turn-left (Turn.Went a t') v p o k g r t = refl
+-- what a call on one record, or on none, gave back, beside the memory that it left
+turn-left : (u : Result Turn Refusal) (m : Memory) (r : Recovery) (t : Tx)
+    → worked_of (turn_worked u r t) m ≡ work_of (turn_left r t (turned_of u m)) false
+turn-left (Ok u) m r t = refl
+turn-left (Err k) m r t = refl
 
-event-left : (e : Event) (v p o k : List ℕ) (g : ℕ) (r : Recovery) (t : Tx)
-    → worked_of (event_worked e k g r t) v p o
-    ≡ work_of (event_left r t (happened_of e (memory v p o k g))) (is_crash (happened_of e (memory v p o k g)))
-event-left (Event.Refused a) v p o k g r t = refl
-event-left Event.Flushed v p o k g r t = refl
-event-left Event.Crashed v p o k g r t = refl
-event-left (Event.RecoveryLines a n r') v p o k g r t = refl
+event-left : (e : Result Event Refusal) (m : Memory) (r : Recovery) (t : Tx)
+    → worked_of (event_worked e r t) m ≡ work_of (event_left r t (happened_of e m)) (is_crash (happened_of e m))
+event-left (Ok Event.Flushed) m r t = refl
+event-left (Ok Event.Crashed) m r t = refl
+event-left (Ok (Event.RecoveryLines a n r')) m r t = refl
+event-left (Err k) m r t = refl
 
-module _ (v p o : List ℕ) (h : Held) {bad : Bool} (t : Tx) (c : Call) {x : Worked} where
-  pub unfit-row : bad ≡ true → x ≡ beside Unfit h.marks h.glb h.recovery t false
-      → worked_of x v p o ≡ worked (memory v p o h.marks h.glb) h.recovery bad t c
-  unfolding worked
-  unfit-row b q = ap (λ (y : Worked). worked_of y v p o) q ∙ rw b
-
-  pub on_one : {i : ℕ} {a : Ask} {v' p' o' : List ℕ} (u : Turn) (k' : List ℕ) (g' : ℕ) → bad ≡ false → c ≡ on i a
-      → turned_of u (memory v' p' o' k' g') ≡ call_one (memory v p o h.marks h.glb) h.recovery t i a
-      → x ≡ turn_worked u k' g' h.recovery t
-      → worked_of x v' p' o' ≡ worked (memory v p o h.marks h.glb) h.recovery bad t c
+module _ (m : Memory) (r : Recovery) (t : Tx) {m' : Memory} {c : Call} {x : Worked} where
+  pub on_one : {i : ℕ} {a : Ask} (u : Result Turn Refusal) → c ≡ on i a → turned_of u m' ≡ call_one m r t i a → x ≡ turn_worked u r t
+      → worked_of x m' ≡ worked m r t c
   unfolding worked carry
-  on_one {v' = v'} {p'} {o'} u k' g' b is done q =
-      ap (λ (y : Worked). worked_of y v' p' o') q
-      ∙ turn-left u v' p' o' k' g' h.recovery t
-      ∙ ap (λ y. work_of (turn_left h.recovery t y) false) done
-      ∙ rw (b, is)
+  on_one u is done q =
+      ap (λ (y : Worked). worked_of y m') q ∙ turn-left u m' r t ∙ ap (λ y. work_of (turn_left r t y) false) done ∙ rw is
 
-  pub on_none : {k : Sys} {v' p' o' : List ℕ} (e : Event) (k' : List ℕ) (g' : ℕ) → bad ≡ false → c ≡ sys k
-      → happened_of e (memory v' p' o' k' g') ≡ call_system (memory v p o h.marks h.glb) h.recovery k
-      → x ≡ event_worked e k' g' h.recovery t
-      → worked_of x v' p' o' ≡ worked (memory v p o h.marks h.glb) h.recovery bad t c
+  pub on_none : {k : Sys} (e : Result Event Refusal) → c ≡ sys k → happened_of e m' ≡ call_system m r k → x ≡ event_worked e r t
+      → worked_of x m' ≡ worked m r t c
   unfolding worked carry
-  on_none {v' = v'} {p'} {o'} e k' g' b is done q =
-      ap (λ (y : Worked). worked_of y v' p' o') q
-      ∙ event-left e v' p' o' k' g' h.recovery t
-      ∙ ap (λ y. work_of (event_left h.recovery t y) (is_crash y)) done
-      ∙ rw (b, is)
+  on_none e is done q =
+      ap (λ (y : Worked). worked_of y m') q
+      ∙ event-left e m' r t
+      ∙ ap (λ y. work_of (event_left r t y) (is_crash y)) done
+      ∙ rw is
 
 -- ---- a call
 
@@ -105,36 +93,46 @@ unfolding carry call_one call_system unfit_one
 unfit-beside m r t (on i a) e = rw e
 unfit-beside m r t (sys k) e = rw e
 
-module _ (m : Memory) (r : Recovery) (ts : List Tx) (c : Call) (bad : Bool)
+module _ (m : Memory) (r : Recovery) (ts : List Tx) (c : Call) {bad : Bool}
     (found : bad ≡ any_of (not (eqb (length ts) 64) ∷ unfit_txs (length m.vol) ts ∷ [])) where
   unfit-is : unfit (store m r ts) ≡ any_of (unfit_memory m r ∷ bad ∷ [])
   unfolding unfit
   unfit-is = sym (three (unfit_memory m r) (not (eqb (length ts) 64)) (unfit_txs (length m.vol) ts)) ∙ ap (λ b. any_of (unfit_memory m r ∷ b ∷ [])) (sym found)
 
+  -- the row of records is unfit
+  pub row-unfit : bad ≡ true → outcome (says 9 0) (store m r ts) ≡ call (store m r ts) c
+  row-unfit b = sym (unfit-any (store m r ts) c (unfit-is ∙ go (unfit_memory m r)))
+    where
+      go : (a : Bool) → any_of (a ∷ bad ∷ []) ≡ true
+      go true = refl
+      go false = rw b
+
   -- refused, and the record put back as it was
   unchanged : unfit (store m r ts) ≡ true → call (store m r ts) c ≡ back ts (slot_of c) (work_of (left (says 9 0) m r (record_at ts (slot_of c))) false)
   unchanged e = unfit-any (store m r ts) c e ∙ rw (set-get_or ts (slot_of c) (tx 0 Fresh))
 
-  put_back : call (store m r ts) c ≡ back ts (slot_of c) (worked m r bad (record_at ts (slot_of c)) c)
+  put_back : bad ≡ false → call (store m r ts) c ≡ back ts (slot_of c) (worked m r (record_at ts (slot_of c)) c)
   unfolding worked
-  put_back = go (unfit_memory m r) bad refl refl
+  put_back b = go (unfit_memory m r) refl
     where
-      go : (a b : Bool) → unfit_memory m r ≡ a → bad ≡ b → call (store m r ts) c ≡ back ts (slot_of c) (worked m r bad (record_at ts (slot_of c)) c)
-      go true true e b = unchanged (unfit-is ∙ rw e) ∙ rw b
-      go false true e b = unchanged (unfit-is ∙ rw (e, b)) ∙ rw b
-      go true false e b = unchanged (unfit-is ∙ rw e) ∙ ap (back ts (slot_of c)) (sym (unfit-beside m r (record_at ts (slot_of c)) c e)) ∙ rw b
-      go false false e b = carries (store m r ts) c (unfit-is ∙ rw (e, b)) ∙ rw b
+      go : (a : Bool) → unfit_memory m r ≡ a → call (store m r ts) c ≡ back ts (slot_of c) (worked m r (record_at ts (slot_of c)) c)
+      go true e = unchanged (unfit-is ∙ rw e) ∙ ap (back ts (slot_of c)) (sym (unfit-beside m r (record_at ts (slot_of c)) c e))
+      go false e = carries (store m r ts) c (unfit-is ∙ rw (e, b))
 
-pub called-whole : (v p o : List ℕ) (h : Held) (ts : List Tx) (c : Call) {bad : Bool} {i : ℕ} {t : Tx} {v' p' o' : List ℕ} {ts₁ ts₂ : List Tx} (x : Worked)
-    → i ≡ slot_of c → bad ≡ any_of (not (eqb (length ts) 64) ∷ unfit_txs (length v) ts ∷ []) → t ≡ record_at ts i
-    → worked_of x v' p' o' ≡ worked (memory v p o h.marks h.glb) h.recovery bad t c
-    → ts₁ ≡ set ts i x.tx → ts₂ ≡ pick x.crashed (crash_txs ts₁) ts₁
-    → outcome_of v' p' o' ts₂ x.after ≡ call (store_of v p o h ts) c
-called-whole v p o h ts c {bad} {i} {v' = v'} {p' = p'} {o' = o'} x at found got done put reached =
-    ap (λ xs. outcome_of v' p' o' xs x.after) (reached ∙ ap (reach x.crashed) put)
-    ∙ ap (back ts i) (done ∙ ap (λ y. worked (memory v p o h.marks h.glb) h.recovery bad y c) got)
-    ∙ ap (λ j. back ts j (worked (memory v p o h.marks h.glb) h.recovery bad (record_at ts j) c)) at
-    ∙ sym (put_back (memory v p o h.marks h.glb) h.recovery ts c bad found)
+pub called-whole : (m : Memory) (r : Recovery) (ts : List Tx) (c : Call) {m' : Memory} {bad : Bool} {i : ℕ} {t : Tx} {ts₁ ts₂ : List Tx} (x : Worked)
+    → bad ≡ any_of (not (eqb (length ts) 64) ∷ unfit_txs (length m.vol) ts ∷ []) → bad ≡ false → i ≡ slot_of c → t ≡ record_at ts i
+    → worked_of x m' ≡ worked m r t c → ts₁ ≡ set ts i x.tx → ts₂ ≡ pick x.crashed (crash_txs ts₁) ts₁
+    → outcome (worked_of x m').left.reply (store m' x.recovery ts₂) ≡ call (store m r ts) c
+called-whole m r ts c {m'} {bad} {i} x found fit at got done put reached =
+    ap (λ ts. outcome (worked_of x m').left.reply (store m' x.recovery ts)) (reached ∙ ap (reach x.crashed) put)
+    ∙ ap (back ts i) (done ∙ ap (λ y. worked m r y c) got)
+    ∙ ap (λ j. back ts j (worked m r (record_at ts j) c)) at
+    ∙ sym (put_back m r ts c found fit)
+
+-- the rows that are lent are those of the memory at its end
+pub with-rows : {v p o : List ℕ} {m : Memory} {r : Recovery} {ts : List Tx} {a : Reply} {z : Outcome} → v ≡ m.vol → p ≡ m.pers → o ≡ m.old
+    → outcome a (store m r ts) ≡ z → outcome a (store (memory v p o m.marks m.glb) r ts) ≡ z
+with-rows a b d e = rw (a, b, d) e
 
 -- ---- making fresh
 
@@ -145,37 +143,29 @@ rows_same v p o e =
     let b = none (not (eqb v o)) (any_of (eqb v 0 ∷ ltb 256 v ∷ [])) a.1 in
     (sym (eqb-true v p (not-false _ a.0)), sym (eqb-true v o (not-false _ b.0)))
 
--- the row that a store made fresh has
-abbrev made : Renewed → List Tx → Outcome
-made x ts = outcome_of x.vol x.pers x.old (stored_if x.made.made (replicate 64 (tx 0 Fresh)) ts) x.made.after
+-- what a store made fresh has, or one that is refused
+abbrev made_by : Held → List Tx → List ℕ → List ℕ → List ℕ → Result (Unit {0}) Refusal → Outcome
+made_by h ts v p o (Ok u) = outcome_of v p o (stored_if (Some (replicate 64 (tx 0 Fresh))) ts) (record { answer = Ok (Taken 0); held = fresh_held })
+made_by h ts v p o (Err k) = outcome_of v p o ts (record { answer = Err k; held = h })
+
+abbrev made : Held → List Tx → Renewed → Outcome
+made h ts x = made_by h ts x.vol x.pers x.old x.made
 
 module _ (v p o : List ℕ) (h : Held) (ts : List Tx) where
-  renews : made (renewed v p o h (length ts)) ts ≡ make_fresh (store_of v p o h ts)
+  renews : made h ts (renewed v p o (length ts)) ≡ make_fresh (store_of v p o h ts)
   unfolding renewed make_fresh fresh
   renews = go (unfit_rows (length v) (length p) (length o)) (eqb (length ts) 64) refl refl
     where
       go : (a b : Bool) → unfit_rows (length v) (length p) (length o) ≡ a → eqb (length ts) 64 ≡ b
-          → made (renewed v p o h (length ts)) ts ≡ make_fresh (store_of v p o h ts)
+          → made h ts (renewed v p o (length ts)) ≡ make_fresh (store_of v p o h ts)
       go true b e f = rw e
       go false false e f = rw (e, f)
-      go false true e f = let same = rows_same (length v) (length p) (length o) e in rw (e, f, same.0, same.1)
+      go false true e f = let same = rows_same (length v) (length p) (length o) e in rw (e, f) (rw (f, same.0, same.1))
 
-pub made-whole : (v p o : List ℕ) (h : Held) (ts : List Tx) {v' p' o' : List ℕ} {ts₁ row : List Tx} (x : Made)
-    → renewed_of x v' p' o' ≡ renewed v p o h (length ts) → row ≡ replicate 64 (tx 0 Fresh) → ts₁ ≡ stored_if x.made row ts
-    → outcome_of v' p' o' ts₁ x.after ≡ make_fresh (store_of v p o h ts)
-made-whole v p o h ts {v'} {p'} {o'} x done blank stored =
-    ap (λ xs. outcome_of v' p' o' xs x.after) (stored ∙ ap (λ row. stored_if x.made row ts) blank)
-    ∙ ap (λ y. made y ts) done
-    ∙ renews v p o h ts
+  module _ {v' p' o' : List ℕ} {x : Result (Unit {0}) Refusal} (done : renewed_of x v' p' o' ≡ renewed v p o (length ts)) where
+    pub fresh-refused : {k : Refusal} → x ≡ Err k → outcome_of v' p' o' ts (record { answer = Err k; held = h }) ≡ make_fresh (store_of v p o h ts)
+    fresh-refused is = (rw is at (ap (made h ts) done)) ∙ renews
 
--- the ways of `renew`
-module _ (v p o : List ℕ) (h : Held) (n : ℕ) {test : Bool} {x : Made}
-    (tested : test ≡ any_of (unfit_rows (length v) (length p) (length o) ∷ not (eqb n 64) ∷ [])) where
-  pub fresh-refused : test ≡ true → x ≡ record { after = record { answer = Unfit; held = h }; made = false } → renewed_of x v p o ≡ renewed v p o h n
-  unfolding renewed
-  fresh-refused e q = ap (λ (y : Made). renewed_of y v p o) q ∙ rw (sym tested ∙ e)
-
-  pub fresh-done : {v' p' o' : List ℕ} {h' : Held} → test ≡ false → v' ≡ replicate (length v) 0 → p' ≡ replicate (length p) 0 → o' ≡ replicate (length o) 0
-      → h' ≡ fresh_held → x ≡ record { after = record { answer = Taken 0; held = h' }; made = true } → renewed_of x v' p' o' ≡ renewed v p o h n
-  unfolding renewed
-  fresh-done {v'} {p'} {o'} e a b d new q = ap (λ (y : Made). renewed_of y v' p' o') q ∙ rw (sym tested ∙ e, a, b, d, new)
+    pub fresh-made : {u : Unit {0}} {ts' row : List Tx} → x ≡ Ok u → row ≡ replicate 64 (tx 0 Fresh) → ts' ≡ stored_if (Some row) ts
+        → outcome_of v' p' o' ts' (record { answer = Ok (Taken 0); held = fresh_held }) ≡ make_fresh (store_of v p o h ts)
+    fresh-made is blank stored = rw (stored, blank) ((rw is at (ap (made h ts) done)) ∙ renews)

@@ -1,13 +1,14 @@
--- What a call does to all of the store but the row of records, from what was found of that row.
-use Rattle.std.specs.Prelude.{Bool, true, false, not, List, [], ◌∷◌, ℕ, length, replicate, eqb}
+-- What a call does to all of the store but the row of records, from the record that it names.
+use Rattle.std.specs.Prelude.{Bool, true, false, not, List, [], ◌∷◌, ℕ, Result, Ok, Err, length, replicate, eqb}
 use Rattle.bits.specs.Marks.{pick}
-use Rattle.dtml.specs.declared.Answer.{Answer}
-use Rattle.dtml.specs.declared.Answer.TheVariants.{Taken, Unfit}
+use Rattle.dtml.specs.declared.Answer.TheVariants.{Taken}
+use Rattle.dtml.specs.declared.Refusal.{Refusal}
+use Rattle.dtml.specs.declared.Refusal.TheVariants.{Unfit}
 use Rattle.dtml.specs.declared.Recovery.{Recovery}
 use Rattle.dtml.specs.declared.Recovery.TheVariants.{Idle, C1}
 use Rattle.dtml.specs.declared.Tx.{Tx}
-use Rattle.dtml.specs.Table.{says, reply}
-use Rattle.dtml.specs.Store.{Memory, memory}
+use Rattle.dtml.specs.Table.{reply}
+use Rattle.dtml.specs.Store.{Memory}
 use Rattle.dtml.specs.declared.Call.{Call}
 use Rattle.dtml.specs.First.{any_of}
 use Rattle.dtml.specs.Checks.{unfit_rows}
@@ -16,7 +17,6 @@ use Rattle.lines.specs.declared.turn.Turn.{Turn}
 use Rattle.system.specs.declared.Event.{Event}
 use Rattle.machine.specs.declared.Held.{Held}
 use Rattle.machine.specs.declared.work.Worked.{Worked}
-use Rattle.machine.specs.declared.work.Made.{Made}
 
 -- ---- a call
 
@@ -28,27 +28,22 @@ pub record Work : Type 0 where
 abbrev pub work_of : Left → Bool → Work
 work_of l b = record { left = l; crashed = b }
 
--- an unfit row of records is refused before anything else; what else is unfit the call itself refuses
-unfoldable pub worked : Memory → Recovery → Bool → Tx → Call → Work
-worked m r bad t c = pick bad (work_of (left (says 9 0) m r t) false) (work_of (carry m r t c) (crashed m r c))
+unfoldable pub worked : Memory → Recovery → Tx → Call → Work
+worked m r t c = work_of (carry m r t c) (crashed m r c)
 
-abbrev pub worked_of : Worked → List ℕ → List ℕ → List ℕ → Work
-worked_of x vol pers old =
-    work_of (left (reply x.after.answer) (memory vol pers old x.after.held.marks x.after.held.glb) x.after.held.recovery x.tx) x.crashed
+abbrev pub worked_of : Worked → Memory → Work
+worked_of x m = work_of (left (reply x.answer) m x.recovery x.tx) x.crashed
 
 -- the same of what a call on one record, or on none, gave back
-abbrev pub beside : Answer → List ℕ → ℕ → Recovery → Tx → Bool → Worked
-beside a k g r t b = record { after = record { answer = a; held = record { marks = k; glb = g; recovery = r } }; tx = t; crashed = b }
+abbrev pub turn_worked : Result Turn Refusal → Recovery → Tx → Worked
+turn_worked (Ok u) r t = record { answer = Ok u.answer; recovery = r; tx = u.tx; crashed = false }
+turn_worked (Err k) r t = record { answer = Err k; recovery = r; tx = t; crashed = false }
 
-abbrev pub turn_worked : Turn → List ℕ → ℕ → Recovery → Tx → Worked
-turn_worked (Turn.Refused a) k g r t = beside a k g r t false
-turn_worked (Turn.Went a t') k g r t = beside a k g r t' false
-
-abbrev pub event_worked : Event → List ℕ → ℕ → Recovery → Tx → Worked
-event_worked (Event.Refused a) k g r t = beside a k g r t false
-event_worked Event.Flushed k g r t = beside (Taken 0) k g r t false
-event_worked Event.Crashed k g r t = beside (Taken 0) k g C1 t true
-event_worked (Event.RecoveryLines a n r') k g r t = beside a k g r' t false
+abbrev pub event_worked : Result Event Refusal → Recovery → Tx → Worked
+event_worked (Ok Event.Flushed) r t = record { answer = Ok (Taken 0); recovery = r; tx = t; crashed = false }
+event_worked (Ok Event.Crashed) r t = record { answer = Ok (Taken 0); recovery = C1; tx = t; crashed = true }
+event_worked (Ok (Event.RecoveryLines a n r')) r t = record { answer = Ok a; recovery = r'; tx = t; crashed = false }
+event_worked (Err k) r t = record { answer = Err k; recovery = r; tx = t; crashed = false }
 
 -- ---- making fresh
 
@@ -56,16 +51,16 @@ pub record Renewed : Type 0 where
   pub vol : List ℕ
   pub pers : List ℕ
   pub old : List ℕ
-  pub made : Made
+  pub made : Result (Unit {0}) Refusal
 
-abbrev pub renewed_of : Made → List ℕ → List ℕ → List ℕ → Renewed
+abbrev pub renewed_of : Result (Unit {0}) Refusal → List ℕ → List ℕ → List ℕ → Renewed
 renewed_of x vol pers old = record { vol = vol; pers = pers; old = old; made = x }
 
 abbrev pub fresh_held : Held
 fresh_held = record { marks = replicate 4 0; glb = 0; recovery = Idle }
 
-unfoldable pub renewed : List ℕ → List ℕ → List ℕ → Held → ℕ → Renewed
-renewed vol pers old h records =
+unfoldable pub renewed : List ℕ → List ℕ → List ℕ → ℕ → Renewed
+renewed vol pers old records =
     pick (any_of (unfit_rows (length vol) (length pers) (length old) ∷ not (eqb records 64) ∷ []))
-    (renewed_of (record { after = record { answer = Unfit; held = h }; made = false }) vol pers old)
-    (renewed_of (record { after = record { answer = Taken 0; held = fresh_held }; made = true }) (replicate (length vol) 0) (replicate (length pers) 0) (replicate (length old) 0))
+    (renewed_of (Err Unfit) vol pers old)
+    (renewed_of (Ok tt) (replicate (length vol) 0) (replicate (length pers) 0) (replicate (length old) 0))

@@ -10,8 +10,9 @@ ghost use Rattle.dtml.specs.Calls.{call as called, make_fresh};
 ghost use Rattle.machine.specs.Given.{store_of, outcome_of};
 
 use crate::work::{blank, renew, slot, work};
-use dtml::{Answer, Call, Recovery, Tx};
+use dtml::{Answer, Answered, Call, Recovery, Refusal, Tx};
 use marks::Marks;
+use parts::memory::Memory;
 
 // What the store holds beside its rows.
 #[derive(Clone, Copy)]
@@ -21,10 +22,19 @@ pub struct Held {
     pub recovery: Recovery,
 }
 
+impl Held {
+    // Of a fresh store.
+    pub const FRESH: Held = Held {
+        marks: [0; 4],
+        glb: 0,
+        recovery: Recovery::Idle,
+    };
+}
+
 // What a call gives back.
 #[derive(Clone, Copy)]
 pub struct After {
-    pub answer: Answer,
+    pub answer: Answered,
     pub held: Held,
 }
 
@@ -39,9 +49,19 @@ pub fn make_fresh(
     ensures { outcome_of vol.new pers.new old.new txs.new result
         ≡ make_fresh (store_of vol.old pers.old old.old held txs.old) }
 {
-    let done = renew(vol, pers, old, held, txs.len());
-    records::store_if(txs, done.made, blank());
-    done.after
+    match renew(vol, pers, old, txs.len()) {
+        Ok(()) => {
+            records::store_if(txs, Some(blank()));
+            After {
+                answer: Ok(Answer::Taken { lines: 0 }),
+                held: Held::FRESH,
+            }
+        }
+        Err(refusal) => After {
+            answer: Err(refusal),
+            held,
+        },
+    }
 }
 
 // Begin, read, write, commit, a step; a system flush, a crash, a line of recovery, or as many as an allowance.
@@ -56,11 +76,31 @@ pub fn call(
     ensures { outcome_of vol.new pers.new old.new txs.new result
         ≡ called (store_of vol.old pers.old old.old held txs.old) asked }
 {
+    if records::unfit(&*txs, vol.len()) {
+        return After {
+            answer: Err(Refusal::Unfit),
+            held,
+        };
+    }
+    let marks = held.marks;
+    let mut memory = Memory {
+        vol,
+        pers,
+        old_words: old,
+        marks,
+        glb: held.glb,
+    };
     let i = slot(asked);
-    let unfit = records::unfit(&*txs, vol.len());
-    let tx = records::get(&*txs, i);
-    let done = work(vol, pers, old, held, unfit, tx, asked);
+    let done = work(&mut memory, held.recovery, records::get(&*txs, i), asked);
     records::put(txs, i, done.tx);
     records::crash_if(txs, done.crashed);
-    done.after
+    let marks = memory.marks;
+    After {
+        answer: done.answer,
+        held: Held {
+            marks,
+            glb: memory.glb,
+            recovery: done.recovery,
+        },
+    }
 }
