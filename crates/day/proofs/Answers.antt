@@ -5,32 +5,35 @@ use borrow.Author.Tests.{eq-eqb, ne_eqb}
 use mathlib.Core.Path.{◌≡◌, sym, ap, ◌∙◌}
 use mathlib.Core.List.{List}
 use lib.ListN.{length}
+use Rattle.std.specs.Prelude.{Result, Ok, Err}
 use Rattle.dtml.specs.declared.Answer.{Answer}
-use Rattle.dtml.specs.declared.Answer.TheVariants.{Taken, Begun, Read, Written, Committed, Aborted, Recovered, Unfit, NoWord, NoRecord, NotIdle, NotFresh, NotReady, NoLine, Idle}
+use Rattle.dtml.specs.declared.Answer.TheVariants.{Taken, Begun, Read, Written, Committed, Aborted, Recovered}
+use Rattle.dtml.specs.declared.Refusal.{Refusal}
+use Rattle.dtml.specs.declared.Refusal.TheVariants.{Unfit, NoWord, NoRecord, NotIdle, NotFresh, NotReady, NoLine, Idle}
 use Rattle.dtml.specs.Table.{reply}
 use Rattle.text.specs.Buffer.{buffer, puts}
 use Rattle.text.specs.Text.{answer_line}
 use Rattle.text.proofs.Laws.{answer-short}
 use Rattle.day.specs.Replay.{answer_text}
 
-two_digits : (a : Answer) → (reply a).number < 100
-two_digits (Taken n) = omega arith
-two_digits Begun = omega arith
-two_digits (Read v) = omega arith
-two_digits Written = omega arith
-two_digits Committed = omega arith
-two_digits Aborted = omega arith
-two_digits (Recovered n) = omega arith
-two_digits Unfit = omega arith
-two_digits NoWord = omega arith
-two_digits NoRecord = omega arith
-two_digits NotIdle = omega arith
-two_digits NotFresh = omega arith
-two_digits NotReady = omega arith
-two_digits NoLine = omega arith
-two_digits Idle = omega arith
+two_digits : (a : Result Answer Refusal) → (reply a).number < 100
+two_digits (Ok (Taken n)) = omega arith
+two_digits (Ok Begun) = omega arith
+two_digits (Ok (Read v)) = omega arith
+two_digits (Ok Written) = omega arith
+two_digits (Ok Committed) = omega arith
+two_digits (Ok Aborted) = omega arith
+two_digits (Ok (Recovered n)) = omega arith
+two_digits (Err Unfit) = omega arith
+two_digits (Err NoWord) = omega arith
+two_digits (Err NoRecord) = omega arith
+two_digits (Err NotIdle) = omega arith
+two_digits (Err NotFresh) = omega arith
+two_digits (Err NotReady) = omega arith
+two_digits (Err NoLine) = omega arith
+two_digits (Err Idle) = omega arith
 
-module _ (out : List ℕ) (at k : ℕ) (a : Answer) (n : ℕ) (numbered : n ≡ (reply a).number) where
+module _ (out : List ℕ) (at k : ℕ) (a : Result Answer Refusal) (n : ℕ) (numbered : n ≡ (reply a).number) where
   pub no_line : n ≡ 0 → (buffer out at ≡ puts (buffer out at) (answer_text k (reply a))) × (length (answer_text k (reply a)) ≤ 30)
   unfolding puts
   no_line z = (rw (sym numbered, eq-eqb n 0 z), rw (sym numbered, eq-eqb n 0 z) (omega arith))

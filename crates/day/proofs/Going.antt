@@ -30,8 +30,7 @@ use Rattle.dtml.proofs.Fitness.{never-unfit}
 use Rattle.dtml.proofs.Counts.{tell-adds}
 use Rattle.machine.specs.declared.Held.{Held}
 use Rattle.machine.specs.Given.{store_of}
-use Rattle.reader.specs.declared.Item.TheVariants.{Does as does}
-use Rattle.reader.specs.Trace.{kinds, found, Script, script, script_of}
+use Rattle.reader.specs.Trace.{kinds, does, found, Script, script, script_of}
 use Rattle.reader.proofs.Scripts.{AllAsk, script_from, script-more, script-does, found-asks, found-bytes}
 use Rattle.text.specs.Buffer.{Buffer, buffer, puts}
 use Rattle.text.proofs.Laws.{puts-append, stop-short, totals-short}
@@ -40,8 +39,7 @@ use Rattle.dtml.proofs.Lift.{carries}
 use Rattle.dtml.proofs.Happens.{never-four}
 use Rattle.day.specs.declared.Totals.{Totals}
 use Rattle.day.specs.Replay.{answers, answered, totals, totals_of, Ending, done, answer_text, answer_lines, stop_text, totals_text, end_text, text_of}
-use Rattle.day.specs.declared.Ended.{Ended}
-use Rattle.day.specs.Ends.{ending_of, longest, Ends}
+use Rattle.day.specs.Ends.{longest}
 use Rattle.day.specs.Counted.{counted, Few}
 
 abbrev pub rest_of : List ℕ → ℕ → Script
@@ -328,9 +326,6 @@ one-line-so bs at c bytes = found-asks OneLine (drop at bs) c bytes lines-one
 
 module _ {trace : List ℕ} {n : ℕ} {out₀ vol pers old out marks : List ℕ} {glb : ℕ} {recovery : Recovery} {rows : List Tx} {totals : Totals} {at place : ℕ}
     (loop : Looping trace n out₀ vol pers old out marks glb recovery rows totals at place) where
-  pub rows_long : length rows ≡ 64
-  rows_long = loop.0.inv.shape.txs-long
-
   pub next-record : totals.records < 65536
   next-record =
       let a = loop.0.ahead in
@@ -340,20 +335,3 @@ module _ {trace : List ℕ} {n : ℕ} {out₀ vol pers old out marks : List ℕ}
 
   pub few-records : Few 65536 totals
   few-records = few-below totals.records totals loop.0.few next-record
-
-  pub over : {k m : ℕ} {r : Ended} {out' : List ℕ} → k < 100 → rest_of trace at ≡ script [] k → m ≡ pick (eqb k 0) 0 (totals.records + 1)
-      → r ≡ record { refusal = k; number = m; totals = totals; length = r.length; held = record { marks = marks; glb = glb; recovery = recovery } }
-      → buffer out' r.length ≡ puts (buffer out place) (end_text k m totals)
-      → Ends (done n (script_of trace)) r vol pers old rows out₀ out'
-  over {k} {m} {r} {out'} small e f q o =
-      let s = store (memory vol pers old marks glb) recovery rows in
-      record {
-        ending =
-            ap (λ (x : Ended). ending_of x vol pers old rows) q
-            ∙ ap (λ (j : ℕ). record { refusal = k; number = j; totals = totals; store = s }) f
-            ∙ ends_so n trace out₀ s totals at (buffer out place) loop.0 k e;
-        text =
-            prints-so n trace out₀ s totals at (buffer out place) loop.0 k e (buffer out' r.length)
-            (o ∙ ap (λ (j : ℕ). puts (buffer out place) (end_text k j totals)) f);
-        short = text-so n trace out₀ s totals at (buffer out place) loop.0 k e small loop.1;
-      }

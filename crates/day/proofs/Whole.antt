@@ -8,8 +8,9 @@ use mathlib.Core.Bool.{Bool, true, false, not}
 use mathlib.Core.List.{List, [], ◌∷◌}
 use lib.ListN.{length, replicate, length-replicate}
 use lib.Dec.{eqb}
+use Rattle.std.specs.Prelude.{Result, Ok, Err, Some, None}
 use Rattle.bits.specs.Marks.{pick}
-use Rattle.dtml.specs.declared.Answer.TheVariants.{Taken}
+use Rattle.dtml.specs.declared.Refusal.{Refusal}
 use Rattle.dtml.specs.declared.Phase.TheVariants.{Fresh}
 use Rattle.dtml.specs.declared.Tx.{Tx}
 use Rattle.dtml.specs.Store.{Store, fresh, tx}
@@ -17,24 +18,25 @@ use Rattle.dtml.specs.First.{any_of}
 use Rattle.dtml.specs.Checks.{unfit_rows}
 use Rattle.dtml.proofs.Fit.{last, none}
 use Rattle.machine.specs.declared.Held.{Held}
-use Rattle.machine.specs.declared.work.Made.{Made}
 use Rattle.machine.specs.Given.{store_of}
 use Rattle.machine.specs.Working.{fresh_held, Renewed, renewed, renewed_of}
-use Rattle.reader.specs.declared.Header.{Header}
+use Rattle.reader.specs.declared.TraceRefusal.{TraceRefusal}
 use Rattle.reader.specs.Said.{header_of}
 use Rattle.reader.specs.Trace.{words_of, script_of}
-use Rattle.reader.proofs.Scripts.{header-sound, header-taken, header_refused, header-number}
+use Rattle.reader.proofs.Scripts.{passed, refused, ok-not-err, err-is, ok-is, header-sound, header-taken, header_refused, refusal-small}
 use Rattle.records.specs.Row.{stored_if}
 use Rattle.text.specs.Buffer.{buffer, puts}
 use Rattle.day.specs.declared.Totals.{Totals}
+use Rattle.day.specs.declared.ReplayRefusal.{ReplayRefusal}
+use Rattle.day.specs.declared.ReplayRefusal.TheVariants.{Unfit, Trace}
 use Rattle.day.specs.declared.Ended.{Ended}
 use Rattle.day.specs.declared.Replayed.{Replayed}
 use Rattle.day.specs.Replay.{totals, Replay, stopped, done, replay, answer_lines, end_text, text_of}
-use Rattle.day.specs.Ends.{ending_of, longest, Ends, begins, EndsBeside}
+use Rattle.day.specs.Ends.{stop_number, misfit, begun_if, begun, begun_said, ending_of, longest, Ends, begins, EndsBeside}
 use Rattle.day.specs.Counted.{Few}
 use Rattle.day.proofs.Going.{end_short}
 
-all_fit : (v p o t n : ℕ) → any_of (not (eqb v n) ∷ not (eqb p n) ∷ not (eqb o n) ∷ not (eqb t 64) ∷ []) ≡ false → (v ≡ n) × (p ≡ n) × (o ≡ n) × (t ≡ 64)
+all_fit : (v p o t n : ℕ) → misfit v p o t n ≡ false → (v ≡ n) × (p ≡ n) × (o ≡ n) × (t ≡ 64)
 all_fit v p o t n h =
     let a = none (not (eqb v n)) (any_of (not (eqb p n) ∷ not (eqb o n) ∷ not (eqb t 64) ∷ [])) h in
     let b = none (not (eqb p n)) (any_of (not (eqb o n) ∷ not (eqb t 64) ∷ [])) a.1 in
@@ -42,15 +44,33 @@ all_fit v p o t n h =
     let d = last (not (eqb t 64)) ∙ c.1 in
     (eqb-true v n (not-false _ a.0), eqb-true p n (not-false _ b.0), eqb-true o n (not-false _ c.0), eqb-true t 64 (not-false _ d))
 
+begun-fits : (h : Result ℕ ℕ) (v p o t w : ℕ) → begun_if h v p o t ≡ Ok w → (h ≡ Ok w) × ((v ≡ w) × (p ≡ w) × (o ≡ w) × (t ≡ 64))
+begun-fits (Ok n) v p o t w e = go (misfit v p o t n) refl e
+  where
+    go : (b : Bool) → misfit v p o t n ≡ b → pick b (refused 9) (passed n) ≡ Ok w → (passed n ≡ Ok w) × ((v ≡ w) × (p ≡ w) × (o ≡ w) × (t ≡ 64))
+    go true q e = ok-not-err (sym e)
+    go false q e = (e, all_fit v p o t w (subst (λ x. misfit v p o t x ≡ false) (ok-is e) q))
+begun-fits (Err k) v p o t w e = ok-not-err (sym e)
+
 -- ---- the store that has the records ts
 
-module _ (bs vol pers old out : List ℕ) (held : Held) (head : Header) (said : head ≡ header_of bs) (ts : List Tx) where
-  stop-so : (k : ℕ) (z : Totals) (r : Ended) (out' : List ℕ) → k < 100 → replay bs (store_of vol pers old held ts) ≡ stopped k (store_of vol pers old held ts)
-      → z ≡ totals 0 0 0 0 0 → r ≡ record { refusal = k; number = 0; totals = z; length = r.length; held = held }
-      → buffer out' r.length ≡ puts (buffer out 0) (end_text k 0 z) → Ends (replay bs (store_of vol pers old held ts)) r vol pers old ts out out'
+-- an end before the first record
+abbrev pub early : ReplayRefusal → Totals → ℕ → Held → Ended
+early refusal z long held = record { stopped = Some (record { refusal = refusal; number = 0 }); totals = z; length = long; held = held }
+
+stop-small : (refusal : ReplayRefusal) → stop_number refusal < 100
+stop-small Unfit = omega arith
+stop-small (Trace refusal) = refusal-small refusal
+
+module _ (bs vol pers old out : List ℕ) (held : Held) (ts : List Tx) where
+  stop-so : (refusal : ReplayRefusal) (z : Totals) (r : Ended) (out' : List ℕ)
+      → replay bs (store_of vol pers old held ts) ≡ stopped (stop_number refusal) (store_of vol pers old held ts) → z ≡ totals 0 0 0 0 0
+      → r ≡ early refusal z r.length held → buffer out' r.length ≡ puts (buffer out 0) (end_text (stop_number refusal) 0 z)
+      → Ends (replay bs (store_of vol pers old held ts)) r vol pers old ts out out'
   unfolding text_of answer_lines
-  stop-so k z r out' small e f q o =
+  stop-so refusal z r out' e f q o =
       let s = store_of vol pers old held ts in
+      let k = stop_number refusal in
       let none : Few 65536 (totals 0 0 0 0 0) =
       record { records = omega arith; crashes = omega arith; lines = omega arith; cut = omega arith; committed = omega arith } in
       record {
@@ -63,156 +83,103 @@ module _ (bs vol pers old out : List ℕ) (held : Held) (head : Header) (said : 
             ∙ ap (λ (x : Totals). puts (buffer out 0) (end_text k 0 x)) f
             ∙ sym (ap (λ (p : Replay). puts (buffer out 0) (text_of p)) e);
         short =
-            let brief = end_short k 0 (totals 0 0 0 0 0) small (omega arith) none in
+            let brief = end_short k 0 (totals 0 0 0 0 0) (stop-small refusal) (omega arith) none in
             subst (λ (p : Replay). length (text_of p) ≤ longest) (sym e) (omega arith);
       }
 
-  header-stopped : (z : Totals) (r : Ended) (out' : List ℕ) → (head.refusal ≡ 0 → ⊥) → z ≡ totals 0 0 0 0 0
-      → r ≡ record { refusal = head.refusal; number = 0; totals = z; length = r.length; held = held }
-      → buffer out' r.length ≡ puts (buffer out 0) (end_text head.refusal 0 z) → Ends (replay bs (store_of vol pers old held ts)) r vol pers old ts out out'
+  abbrev here : Store
+  here = store_of vol pers old held ts
+
+  -- a refusal before the first record: the store stays, and nothing begins
+  refused-so : (k : ℕ) → begun bs (length vol) (length pers) (length old) (length ts) ≡ Err k → (replay bs here ≡ stopped k here) × (false ≡ begins bs here)
   unfolding replay
-  header-stopped z r out' h f q o =
-      stop-so head.refusal z r out'
-      (rw (ap (λ (x : Header). x.refusal) said) (header-number bs))
-      (header_refused bs (λ k. stopped k (store_of vol pers old held ts)) _ (λ e. h (ap (λ (x : Header). x.refusal) said ∙ e))
-      ∙ ap (λ k. stopped k (store_of vol pers old held ts)) (sym (ap (λ (x : Header). x.refusal) said)))
-      f q o
+  refused-so k = go (header_of bs) refl
+    where
+      unfit : (b : Bool) (n : ℕ) → pick b (refused 9) (passed n) ≡ refused k → (pick b (stopped 9 here) (done (words_of bs) (script_of bs)) ≡ stopped k here) × (false ≡ pick b false true)
+      unfit true n e = (ap (λ j. stopped j here) (err-is e), refl)
+      unfit false n e = ok-not-err e
 
-  header-not-begun : (head.refusal ≡ 0 → ⊥) → false ≡ begins bs (store_of vol pers old held ts)
-  header-not-begun h = sym (header_refused bs (λ k. false) _ (λ e. h (ap (λ (x : Header). x.refusal) said ∙ e)))
+      go : (h : Result ℕ ℕ) → header_of bs ≡ h → begun_if h (length vol) (length pers) (length old) (length ts) ≡ refused k
+          → (replay bs here ≡ stopped k here) × (false ≡ begins bs here)
+      go (Ok n) taken e =
+          let words = (header-sound bs n taken).0 in
+          let test : ℕ → Bool = misfit (length vol) (length pers) (length old) (length ts) in
+          let u = unfit (test (words_of bs)) n (ap (λ w. pick (test w) (refused 9) (passed n)) (sym words) ∙ e) in
+          (header-taken bs n taken (λ k. stopped k here) _ ∙ u.0, u.1 ∙ sym (header-taken bs n taken (λ k. false) _))
+      go (Err j) refused_as e =
+          (header_refused bs j (λ k. stopped k here) _ refused_as ∙ ap (λ k. stopped k here) (err-is e), sym (header_refused bs j (λ k. false) _ refused_as))
 
-  module _ (sound : head.refusal ≡ 0) (test : Bool)
-      (tested : test ≡ any_of (not (eqb (length vol) head.words) ∷ not (eqb (length pers) head.words) ∷ not (eqb (length old) head.words) ∷ not (eqb (length ts) 64) ∷ [])) where
-    taken : (header_of bs).refusal ≡ 0
-    taken = sym (ap (λ (x : Header). x.refusal) said) ∙ sound
-
-    words : head.words ≡ words_of bs
-    words = ap (λ (x : Header). x.words) said ∙ (header-sound bs taken).0
-
-    unfit-is : any_of (not (eqb (length vol) (words_of bs)) ∷ not (eqb (length pers) (words_of bs)) ∷ not (eqb (length old) (words_of bs)) ∷ not (eqb (length ts) 64) ∷ []) ≡ test
-    unfit-is =
-        sym (ap (λ (n : ℕ). any_of (not (eqb (length vol) n) ∷ not (eqb (length pers) n) ∷ not (eqb (length old) n) ∷ not (eqb (length ts) 64) ∷ [])) words) ∙ sym tested
-
-    begins-so : begins bs (store_of vol pers old held ts) ≡ not test
-    begins-so = header-taken bs (λ k. false) _ taken ∙ rw unfit-is (go test)
-      where
-        go : (b : Bool) → pick b false true ≡ not b
-        go true = refl
-        go false = refl
-
-    rows-stopped : (z : Totals) (r : Ended) (out' : List ℕ) → test ≡ true → z ≡ totals 0 0 0 0 0
-        → r ≡ record { refusal = 9; number = 0; totals = z; length = r.length; held = held }
-        → buffer out' r.length ≡ puts (buffer out 0) (end_text 9 0 z) → Ends (replay bs (store_of vol pers old held ts)) r vol pers old ts out out'
+  module _ (words : ℕ) (begun-with : begun bs (length vol) (length pers) (length old) (length ts) ≡ Ok words) where
+    goes : (replay bs here ≡ done (length vol) (script_of bs)) × (true ≡ begins bs here)
     unfolding replay
-    rows-stopped z r out' h f q o =
-        stop-so 9 z r out'
-        (omega arith)
-        (header-taken bs (λ k. stopped k (store_of vol pers old held ts)) _ taken ∙ rw (unfit-is ∙ h))
-        f q o
-
-    module _ (fits : test ≡ false) where
-      same_rows : (length vol ≡ head.words) × (length pers ≡ head.words) × (length old ≡ head.words) × (length ts ≡ 64)
-      same_rows = all_fit (length vol) (length pers) (length old) (length ts) head.words (sym tested ∙ fits)
-
-      vol-words : length vol ≡ words_of bs
-      vol-words = same_rows.0 ∙ words
-
-      goes : replay bs (store_of vol pers old held ts) ≡ done (length vol) (script_of bs)
-      unfolding replay
-      goes =
-          header-taken bs (λ k. stopped k (store_of vol pers old held ts)) _ taken
-          ∙ rw (vol-words, same_rows.1 ∙ words, same_rows.2 ∙ words, same_rows.3, eq-eqb (words_of bs) (words_of bs) refl)
+    goes =
+        let f = begun-fits (header_of bs) (length vol) (length pers) (length old) (length ts) words begun-with in
+        let w = (header-sound bs words f.0).0 in (
+          header-taken bs words f.0 (λ k. stopped k here) _ ∙ rw (f.1.0 ∙ w, f.1.1 ∙ w, f.1.2 ∙ w, f.1.3, eq-eqb (words_of bs) (words_of bs) refl),
+          sym (header-taken bs words f.0 (λ k. false) _ ∙ rw (f.1.0 ∙ w, f.1.1 ∙ w, f.1.2 ∙ w, f.1.3, eq-eqb (words_of bs) (words_of bs) refl)),
+        )
 
 -- ---- beside a row of n records
 
-kept-so : (bs : List ℕ) (with : List Tx → Store) (n : ℕ) (e : Ended) (vol pers old out out' : List ℕ) (r : Replayed)
-    → r ≡ record { ended = e; changed = false; txs = replicate 64 (tx 0 Fresh) }
-    → ((ts : List Tx) → length ts ≡ n → Ends (replay bs (with ts)) e vol pers old ts out out')
-    → ((ts : List Tx) → length ts ≡ n → false ≡ begins bs (with ts))
-    → EndsBeside bs with n r vol pers old out out'
-kept-so bs with n e vol pers old out out' r q ends not-begun =
-    rw q (record { ends = ends; changed = not-begun; unchanged = λ h. refl })
+module _ (bs vol pers old out : List ℕ) (held : Held) (n : ℕ) (got : Result ℕ ReplayRefusal) (said : begun_said got ≡ begun bs (length vol) (length pers) (length old) n) where
+  abbrev says : Result ℕ ℕ → Type 0
+  says h = (ts : List Tx) → length ts ≡ n → begun bs (length vol) (length pers) (length old) (length ts) ≡ h
 
-module _ (bs vol pers old out : List ℕ) (held : Held) (n : ℕ) (head : Header) (said : head ≡ header_of bs) where
-  pub header-stops : (z : Totals) (e : Ended) (r : Replayed) (out' : List ℕ) → (head.refusal ≡ 0 → ⊥) → z ≡ totals 0 0 0 0 0
-      → e ≡ record { refusal = head.refusal; number = 0; totals = z; length = e.length; held = held }
-      → buffer out' e.length ≡ puts (buffer out 0) (end_text head.refusal 0 z)
-      → r ≡ record { ended = e; changed = false; txs = replicate 64 (tx 0 Fresh) }
+  -- a refusal before the first record
+  pub stops : (refusal : ReplayRefusal) → got ≡ Err refusal → (z : Totals) (e : Ended) (r : Replayed) (out' : List ℕ) → z ≡ totals 0 0 0 0 0
+      → e ≡ early refusal z e.length held
+      → buffer out' e.length ≡ puts (buffer out 0) (end_text (stop_number refusal) 0 z)
+      → r ≡ record { ended = e; txs = None }
       → EndsBeside bs (store_of vol pers old held) n r vol pers old out out'
-  header-stops z e r out' h f q o kept =
-      kept-so bs (store_of vol pers old held) n e vol pers old out out' r kept
-      (λ ts long. header-stopped bs vol pers old out held head said ts z e out' h f q o)
-      (λ ts long. header-not-begun bs vol pers old out held head said ts h)
+  stops refusal is z e r out' f q o kept =
+      let so : says (Err (stop_number refusal)) = λ ts long. rw long (sym said ∙ ap begun_said is) in
+      rw kept (
+      record {
+        ends = λ ts long. stop-so bs vol pers old out held ts refusal z e out' (refused-so bs vol pers old out held ts (stop_number refusal) (so ts long)).0 f q o;
+        changed = λ ts long. (refused-so bs vol pers old out held ts (stop_number refusal) (so ts long)).1;
+      }
+      )
 
-  module _ (sound : head.refusal ≡ 0) (test : Bool)
-      (tested : test ≡ any_of (not (eqb (length vol) head.words) ∷ not (eqb (length pers) head.words) ∷ not (eqb (length old) head.words) ∷ not (eqb n 64) ∷ [])) where
-    -- the test, of a row that has so many records
-    tested-of : (ts : List Tx) → length ts ≡ n
-        → test ≡ any_of (not (eqb (length vol) head.words) ∷ not (eqb (length pers) head.words) ∷ not (eqb (length old) head.words) ∷ not (eqb (length ts) 64) ∷ [])
-    tested-of ts long = rw long tested
+  module _ (words : ℕ) (is : got ≡ Ok words) where
+    fits : (header_of bs ≡ Ok words) × ((length vol ≡ words) × (length pers ≡ words) × (length old ≡ words) × (n ≡ 64))
+    fits = begun-fits (header_of bs) (length vol) (length pers) (length old) n words (sym said ∙ ap begun_said is)
 
-    pub rows-stop : (z : Totals) (e : Ended) (r : Replayed) (out' : List ℕ) → test ≡ true → z ≡ totals 0 0 0 0 0
-        → e ≡ record { refusal = 9; number = 0; totals = z; length = e.length; held = held }
-        → buffer out' e.length ≡ puts (buffer out 0) (end_text 9 0 z)
-        → r ≡ record { ended = e; changed = false; txs = replicate 64 (tx 0 Fresh) }
-        → EndsBeside bs (store_of vol pers old held) n r vol pers old out out'
-    rows-stop z e r out' h f q o kept =
-        kept-so bs (store_of vol pers old held) n e vol pers old out out' r kept
-        (λ ts long. rows-stopped bs vol pers old out held head said ts sound test (tested-of ts long) z e out' h f q o)
-        (λ ts long. ap not (sym h) ∙ sym (begins-so bs vol pers old out held head said ts sound test (tested-of ts long)))
+    sound : (words ≡ words_of bs) × (0 < words_of bs) × (words_of bs ≤ 256) × (3 ≤ length bs) × (length bs ≤ 65536)
+    sound = header-sound bs words fits.0
 
-    module _ (fits : test ≡ false) where
-      fit-rows : (length vol ≡ head.words) × (length pers ≡ head.words) × (length old ≡ head.words) × (n ≡ 64)
-      fit-rows = all_fit (length vol) (length pers) (length old) n head.words (sym tested ∙ fits)
+    made : renewed vol pers old n ≡ renewed_of (Ok tt) (replicate (length vol) 0) (replicate (length vol) 0) (replicate (length vol) 0)
+    unfolding renewed unfit_rows
+    made =
+        let k = sound in
+        rw (fits.1.0 ∙ sound.0, fits.1.1 ∙ sound.0, fits.1.2 ∙ sound.0, fits.1.3, eq-eqb (words_of bs) (words_of bs) refl, ne_eqb (words_of bs) 0 (omega arith), le-ltb 256 (words_of bs) k.2)
 
-      header-taken-so : (header_of bs).refusal ≡ 0
-      header-taken-so = sym (ap (λ (x : Header). x.refusal) said) ∙ sound
+    -- the store is fresh as the first record finds it
+    module _ (vol' pers' old' : List ℕ) (x : Result (Unit {0}) Refusal) (e : renewed_of x vol' pers' old' ≡ renewed vol pers old n) where
+      pub renews : x ≡ Ok tt
+      renews = ap (λ (y : Renewed). y.made) (e ∙ made)
 
-      head-words : head.words ≡ words_of bs
-      head-words = ap (λ (x : Header). x.words) said ∙ (header-sound bs header-taken-so).0
+      is-fresh : store_of vol' pers' old' fresh_held (replicate 64 (tx 0 Fresh)) ≡ fresh (length vol)
+      unfolding fresh
+      is-fresh = ap (λ (y : Renewed). store_of y.vol y.pers y.old fresh_held (replicate 64 (tx 0 Fresh))) (e ∙ made)
 
-      made : renewed vol pers old held n
-          ≡ renewed_of (record { after = record { answer = Taken 0; held = fresh_held }; made = true }) (replicate (length vol) 0) (replicate (length vol) 0) (replicate (length vol) 0)
-      unfolding renewed unfit_rows
-      made =
-          let k = header-sound bs header-taken-so in
-          rw (fit-rows.0 ∙ head-words, fit-rows.1 ∙ head-words, fit-rows.2 ∙ head-words, fit-rows.3, eq-eqb (words_of bs) (words_of bs) refl, ne_eqb (words_of bs) 0 (omega arith), le-ltb 256 (words_of bs) k.2)
+      pub fresh-long : length vol' ≡ length vol
+      fresh-long = ap (λ (y : Renewed). length y.vol) (e ∙ made) ∙ length-replicate (length vol) 0
 
-      -- the store is fresh as the first record finds it
-      module _ (vol' pers' old' : List ℕ) (x : Made) (e : renewed_of x vol' pers' old' ≡ renewed vol pers old held n) where
-        is-fresh : store_of vol' pers' old' x.after.held (replicate 64 (tx 0 Fresh)) ≡ fresh (length vol)
-        unfolding fresh
-        is-fresh = ap (λ (y : Renewed). store_of y.vol y.pers y.old y.made.after.held (replicate 64 (tx 0 Fresh))) (e ∙ made)
+      pub fresh-rows : (store_of vol' pers' old' fresh_held (replicate 64 (tx 0 Fresh)) ≡ fresh (length vol'))
+          × (1 ≤ length vol') × (length vol' ≤ 256) × (3 ≤ length bs) × (length bs ≤ 65536)
+      fresh-rows =
+          let k = sound in
+          let w : length vol' ≡ words_of bs = fresh-long ∙ fits.1.0 ∙ sound.0 in
+          (is-fresh ∙ ap fresh (sym fresh-long), omega (arith, k.1), omega (arith, k.2), k.3, k.4)
 
-        pub fresh-long : length vol' ≡ length vol
-        fresh-long = ap (λ (y : Renewed). length y.vol) (e ∙ made) ∙ length-replicate (length vol) 0
-
-        pub fresh-rows : (store_of vol' pers' old' x.after.held (replicate 64 (tx 0 Fresh)) ≡ fresh (length vol'))
-            × (1 ≤ length vol') × (length vol' ≤ 256) × (3 ≤ length bs) × (length bs ≤ 65536)
-        fresh-rows =
-            let k = header-sound bs header-taken-so in
-            let w : length vol' ≡ words_of bs = fresh-long ∙ fit-rows.0 ∙ head-words in
-            (is-fresh ∙ ap fresh (sym fresh-long), omega (arith, k.1), omega (arith, k.2), k.3, k.4)
-
-      pub records-so : (m : ℕ) (r : Replayed) (vol' pers' old' out' : List ℕ) → m ≡ length vol
-          → Ends (done m (script_of bs)) r.ended vol' pers' old' r.txs out out' → r.changed ≡ true
-          → EndsBeside bs (store_of vol pers old held) n r vol' pers' old' out out'
-      records-so m r vol' pers' old' out' e f changed =
-          record {
-            ends = λ ts long.
-                let g = ap (λ (k : ℕ). done k (script_of bs)) e ∙ sym (goes bs vol pers old out held head said ts sound test (tested-of ts long) fits) in
-                rw (changed, long, fit-rows.3) (subst (λ (p : Replay). Ends p r.ended vol' pers' old' r.txs out out') g f);
-            changed = λ ts long. changed ∙ sym (begins-so bs vol pers old out held head said ts sound test (tested-of ts long) ∙ ap not fits);
-            unchanged = λ h. let never : true ≡ false = sym changed ∙ h in cc;
-          }
-
--- the records are given back beside the ending
-pub given_back : {p : Replay} {e : Ended} {ts : List Tx} {vol pers old out out' : List ℕ} {r : Replayed} → r ≡ record { ended = e; changed = true; txs = ts }
-    → Ends p e vol pers old ts out out' → Ends p r.ended vol pers old r.txs out out' × (r.changed ≡ true)
-given_back q f = rw q (f, refl)
-
--- on a lent row, which is left as it is or has the records that are given back
-pub on-lent : {bs : List ℕ} {with : List Tx → Store} {n : ℕ} {r : Replayed} {vol pers old out out' : List ℕ} → EndsBeside bs with n r vol pers old out out' → (ts ts' : List Tx)
-    → length ts ≡ n → ts' ≡ stored_if r.changed r.txs ts → Ends (replay bs (with ts)) r.ended vol pers old ts' out out'
-on-lent {bs} {with} {n} {r} {vol} {pers} {old} {out} {out'} f ts ts' long e =
-    subst (λ (us : List Tx). Ends (replay bs (with ts)) r.ended vol pers old us out out') (sym e) (f.ends ts long)
+    pub records-so : (m : ℕ) (r : Replayed) (ts' : List Tx) (vol' pers' old' out' : List ℕ) → m ≡ length vol
+        → r.txs ≡ Some ts' → Ends (done m (script_of bs)) r.ended vol' pers' old' ts' out out'
+        → EndsBeside bs (store_of vol pers old held) n r vol' pers' old' out out'
+    records-so m r ts' vol' pers' old' out' e given f =
+        let so : says (Ok words) = λ ts long. rw long (sym said ∙ ap begun_said is) in
+        record {
+          ends = λ ts long.
+              let g = ap (λ (k : ℕ). done k (script_of bs)) e ∙ sym (goes bs vol pers old out held ts words (so ts long)).0 in
+              rw (given, long, fits.1.3) (subst (λ (p : Replay). Ends p r.ended vol' pers' old' ts' out out') g f);
+          changed = λ ts long. rw given (goes bs vol pers old out held ts words (so ts long)).1;
+        }

@@ -1,23 +1,24 @@
 -- How a script grows, record by record: a record takes three bytes or more, so what is left is shorter, and as many turns as bytes are enough.
--- What a header's refusal says: where it is 0 no check applies, since no check has the number 0; else it is the first that applies.
+-- What a header says: where it names N words no check applies; else the first that applies refuses.
 use Prim.Native.Nat.{ℕ, zero, suc, ◌+◌, ◌≤◌, ◌<◌}
 use mathlib.Core.Path.{◌≡◌, refl, sym, ap, subst, ◌∙◌}
-use mathlib.Core.Bool.{Bool, true, false, not}
-use mathlib.Core.Logic.{◌⊎◌, inl, inr}
+use mathlib.Core.Bool.{Bool, true, false}
 use mathlib.Core.List.{List, [], ◌∷◌}
 use native.Mathlib.Omega.{arith}
 use borrow.Author.Tests.{ltb-false, eqb-false, eq-eqb}
 use lib.ListN.{length, take, drop, length-drop}
 use lib.Seq.{length-take-le}
 use lib.Dec.{eqb, ltb}
+use Rattle.std.specs.Prelude.{Result, Ok, Err}
 use Rattle.bits.specs.Marks.{pick}
 use Rattle.dtml.specs.declared.Call.{Call}
 use Rattle.dtml.specs.First.{any_of, Check, first}
-use Rattle.dtml.proofs.Words.{same_or_not, pick-case}
+use Rattle.dtml.proofs.Words.{pick-case}
 use Rattle.dtml.proofs.Fit.{last, none}
-use Rattle.reader.specs.declared.Header.{Header}
-use Rattle.reader.specs.Trace.{byte, two, version, words_of, header_checks, Kind, kinds, Item, end, stops, does, of_kind, found, Script, script, follow, script_up_to}
-use Rattle.reader.specs.Said.{header_of}
+use Rattle.reader.specs.declared.TraceRefusal.{TraceRefusal}
+use Rattle.reader.specs.declared.TraceRefusal.TheVariants.{UnknownKind, WrongLength, WrongVersion, CutShort, WrongSize, TooLong}
+use Rattle.reader.specs.Trace.{byte, two, words_of, header_checks, Kind, kinds, Item, end, stops, does, of_kind, found, Script, script, follow, script_up_to}
+use Rattle.reader.specs.Said.{number_of, header_of}
 
 -- ---- a record's bytes
 
@@ -169,102 +170,79 @@ found-refusal bs n =
 
 -- ---- the first check that applies
 
-abbrev pub Positive : List Check → Type 0
-Positive [] = Unit {0}
-Positive (c ∷ cs) = (0 < c.number) × Positive cs
-
 abbrev pub NoneApplies : List Check → Type 0
 NoneApplies [] = Unit {0}
 NoneApplies (c ∷ cs) = (c.applies ≡ false) × NoneApplies cs
 
--- its number, 0 if there is none
-abbrev pub refusal_of : List Check → ℕ
-refusal_of cs = first cs (λ k. k) 0
+abbrev pub passed : ℕ → Result ℕ ℕ
+passed n = Ok n
 
-first_then : {A B : Type 0} (g : A → B) (cs : List Check) (f : ℕ → A) (x : A) → g (first cs f x) ≡ first cs (λ k. g (f k)) (g x)
-first_then g [] f x = refl
-first_then {A} {B} g (c ∷ cs) f x = go c.applies (first cs f x) (first cs (λ k. g (f k)) (g x)) (first_then g cs f x)
-  where
-    go : (b : Bool) (y : A) (z : B) → g y ≡ z → g (pick b (f c.number) y) ≡ pick b (g (f c.number)) z
-    go true y z e = refl
-    go false y z e = e
+abbrev pub refused : ℕ → Result ℕ ℕ
+refused k = Err k
 
-pub none-applies : (cs : List Check) → Positive cs → refusal_of cs ≡ 0 → NoneApplies cs
-none-applies [] p e = tt
-none-applies (c ∷ cs) p e = go c.applies e (none-applies cs p.1)
+pub ok-not-err : {A : Type 0} {n k : ℕ} → passed n ≡ refused k → A
+ok-not-err e = let z : ◌≡◌ {A = ℕ} 0 1 = cc in absurd (omega arith)
+
+pub err-is : {j k : ℕ} → refused j ≡ refused k → j ≡ k
+err-is e = cc
+
+pub ok-is : {n m : ℕ} → passed n ≡ passed m → n ≡ m
+ok-is e = cc
+
+none-applies : (cs : List Check) (w n : ℕ) → first cs Err (passed w) ≡ passed n → (w ≡ n) × NoneApplies cs
+none-applies [] w n e = (ok-is e, tt)
+none-applies (c ∷ cs) w n e = go c.applies e (none-applies cs w n)
   where
-    go : (b : Bool) → pick b c.number (refusal_of cs) ≡ 0 → (refusal_of cs ≡ 0 → NoneApplies cs) → (b ≡ false) × NoneApplies cs
-    go true e rest = absurd (let z : c.number ≡ 0 = e in omega arith)
-    go false e rest = (refl, rest e)
+    go : (b : Bool) → pick b (refused c.number) (first cs Err (passed w)) ≡ passed n
+        → (first cs Err (passed w) ≡ passed n → (w ≡ n) × NoneApplies cs) → (w ≡ n) × ((b ≡ false) × NoneApplies cs)
+    go true e rest = ok-not-err (sym e)
+    go false e rest = let r = rest e in (r.0, (refl, r.1))
 
 pub first-none : {A : Type 0} (cs : List Check) (f : ℕ → A) (x : A) → NoneApplies cs → first cs f x ≡ x
 first-none [] f x n = refl
 first-none (c ∷ cs) f x n = rw n.0 (first-none cs f x n.1)
 
-pub first_some : {A : Type 0} (cs : List Check) (f : ℕ → A) (x : A) → (refusal_of cs ≡ 0 → ⊥) → first cs f x ≡ f (refusal_of cs)
-first_some [] f x h = absurd (h refl)
-first_some {A} (c ∷ cs) f x h = go c.applies h (first_some cs f x)
+first-refuses : {A : Type 0} (cs : List Check) (w k : ℕ) (f : ℕ → A) (x : A) → first cs Err (passed w) ≡ refused k → first cs f x ≡ f k
+first-refuses [] w k f x e = ok-not-err e
+first-refuses (c ∷ cs) w k f x e = go c.applies e (first-refuses cs w k f x)
   where
-    go : (b : Bool) → (pick b c.number (refusal_of cs) ≡ 0 → ⊥) → ((refusal_of cs ≡ 0 → ⊥) → first cs f x ≡ f (refusal_of cs))
-        → pick b (f c.number) (first cs f x) ≡ f (pick b c.number (refusal_of cs))
-    go true h rest = refl
-    go false h rest = rest h
+    go : (b : Bool) → pick b (refused c.number) (first cs Err (passed w)) ≡ refused k
+        → (first cs Err (passed w) ≡ refused k → first cs f x ≡ f k) → pick b (f c.number) (first cs f x) ≡ f k
+    go true e rest = ap f (err-is e)
+    go false e rest = rest e
 
 -- ---- the header
 
-abbrev refused : ℕ → Header
-refused k = record { refusal = k; words = 0 }
+module _ (bs : List ℕ) (n : ℕ) (taken : header_of bs ≡ Ok n) where
+  header-passes : (words_of bs ≡ n) × NoneApplies (header_checks bs)
+  unfolding header_of
+  header-passes = none-applies (header_checks bs) (words_of bs) n taken
 
-abbrev taken : ℕ → Header
-taken n = record { refusal = 0; words = n }
+  pub header-taken : {A : Type 0} (f : ℕ → A) (x : A) → first (header_checks bs) f x ≡ x
+  header-taken f x = first-none (header_checks bs) f x header-passes.1
 
-header-refusal : (bs : List ℕ) → (header_of bs).refusal ≡ refusal_of (header_checks bs)
+  pub header-sound : (n ≡ words_of bs) × (0 < words_of bs) × (words_of bs ≤ 256) × (3 ≤ length bs) × (length bs ≤ 65536)
+  header-sound =
+      let p = header-passes.1 in
+      let w = none (eqb (words_of bs) 0) (any_of (ltb 256 (words_of bs) ∷ [])) p.1.1.1.1.0 in
+      let f : words_of bs ≡ 0 → ⊥ = eqb-false (words_of bs) 0 w.0 in (
+        sym header-passes.0,
+        omega arith,
+        ltb-false 256 (words_of bs) (last (ltb 256 (words_of bs)) ∙ w.1),
+        ltb-false (length bs) 3 p.1.1.1.0,
+        ltb-false 65536 (length bs) p.0,
+      )
+
+pub header_refused : {A : Type 0} (bs : List ℕ) (k : ℕ) (f : ℕ → A) (x : A) → header_of bs ≡ Err k → first (header_checks bs) f x ≡ f k
 unfolding header_of
-header-refusal bs = first_then (λ (h : Header). h.refusal) (header_checks bs) refused (taken (words_of bs))
+header_refused bs k f x e = first-refuses (header_checks bs) (words_of bs) k f x e
 
-header-passes : (bs : List ℕ) → (header_of bs).refusal ≡ 0 → NoneApplies (header_checks bs)
-header-passes bs e =
-    none-applies (header_checks bs) (omega arith, (omega arith, (omega arith, (omega arith, (omega arith, tt))))) (sym (header-refusal bs) ∙ e)
+-- ---- a refusal's number, as it is printed
 
-pub header-taken : {A : Type 0} (bs : List ℕ) (f : ℕ → A) (x : A) → (header_of bs).refusal ≡ 0 → first (header_checks bs) f x ≡ x
-header-taken bs f x e = first-none (header_checks bs) f x (header-passes bs e)
-
-pub header-sound : (bs : List ℕ) → (header_of bs).refusal ≡ 0
-    → ((header_of bs).words ≡ words_of bs) × (0 < words_of bs) × (words_of bs ≤ 256) × (3 ≤ length bs) × (length bs ≤ 65536)
-unfolding header_of
-header-sound bs e =
-    let p = header-passes bs e in
-    let w = none (eqb (words_of bs) 0) (any_of (ltb 256 (words_of bs) ∷ [])) p.1.1.1.1.0 in
-    let f : words_of bs ≡ 0 → ⊥ = eqb-false (words_of bs) 0 w.0 in (
-      ap (λ (h : Header). h.words) (header-taken bs refused (taken (words_of bs)) e),
-      omega arith,
-      ltb-false 256 (words_of bs) (last (ltb 256 (words_of bs)) ∙ w.1),
-      ltb-false (length bs) 3 p.1.1.1.0,
-      ltb-false 65536 (length bs) p.0,
-    )
-
-pub header_refused : {A : Type 0} (bs : List ℕ) (f : ℕ → A) (x : A) → ((header_of bs).refusal ≡ 0 → ⊥)
-    → first (header_checks bs) f x ≡ f (header_of bs).refusal
-header_refused bs f x h = rw (header-refusal bs) (first_some (header_checks bs) f x (λ z. h (header-refusal bs ∙ z)))
-
-pub header-no-words : (bs : List ℕ) → ((header_of bs).refusal ≡ 0 → ⊥) → (header_of bs).words ≡ 0
-unfolding header_of
-header-no-words bs h = ap (λ (h : Header). h.words) (header_refused bs refused (taken (words_of bs)) h)
-
--- sound or not, it names no more than 256 words
-pub header-few : (bs : List ℕ) → (header_of bs).words ≤ 256
-header-few bs = go (same_or_not (header_of bs).refusal 0)
-  where
-    go : ((header_of bs).refusal ≡ 0) ⊎ ((header_of bs).refusal ≡ 0 → ⊥) → (header_of bs).words ≤ 256
-    go (inl e) = let h = header-sound bs e in omega (arith, h.0, h.2)
-    go (inr h) = let z = header-no-words bs h in omega arith
-
-pub header-number : (bs : List ℕ) → (header_of bs).refusal < 100
-header-number bs =
-    let P : ℕ → Type 0 = λ n. n < 100 in
-    rw (header-refusal bs)
-    (pick-case P (ltb 65536 (length bs)) (λ e. omega arith)
-    (λ e. pick-case P (eqb (length bs) 0) (λ e. omega arith)
-    (λ e. pick-case P (not (eqb (version bs) 1)) (λ e. omega arith)
-    (λ e. pick-case P (ltb (length bs) 3) (λ e. omega arith)
-    (λ e. pick-case P (any_of (eqb (words_of bs) 0 ∷ ltb 256 (words_of bs) ∷ [])) (λ e. omega arith) (λ e. omega arith))))))
+pub refusal-small : (r : TraceRefusal) → number_of r < 100
+refusal-small UnknownKind = omega arith
+refusal-small WrongLength = omega arith
+refusal-small WrongVersion = omega arith
+refusal-small CutShort = omega arith
+refusal-small WrongSize = omega arith
+refusal-small TooLong = omega arith

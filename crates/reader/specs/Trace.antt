@@ -5,8 +5,6 @@ use Rattle.dtml.specs.declared.Ask.TheVariants.{Begin as begin, Read as read, Wr
 use Rattle.dtml.specs.declared.Sys.TheVariants.{Flush as flush, Crash as crash, Recover as recover}
 use Rattle.dtml.specs.declared.Call.{Call}
 use Rattle.dtml.specs.declared.Call.TheVariants.{On as on, Of as sys}
-pub use Rattle.reader.specs.declared.Item.{Item}
-pub use Rattle.reader.specs.declared.Item.TheVariants.{End as end, Stops as stops, Does as does}
 use Rattle.dtml.specs.First.{any_of, Check, ◌⇒◌, first}
 
 -- ---- numbers, big-endian
@@ -61,6 +59,12 @@ kinds =
     ∷ kind 7 1 (λ body. sys crash)
     ∷ kind 8 1 (λ body. sys recover)
     ∷ []
+
+-- what stands at a place of the trace: its end, a record that is refused by number, or one of so many bytes, its length bytes among them, with its call
+pub data Item : Type 0 where
+  end : Item
+  stops : (refusal : ℕ) → Item
+  does : (call : Call) → (bytes : ℕ) → Item
 
 -- a body asks for the call if it is so long; else it is refused, 18
 abbrev pub of_length : ℕ → List ℕ → Call → Item

@@ -2,19 +2,35 @@
 
 #![tactic(auto)]
 
+ghost use Rattle.std.specs.Prelude.{◌≡◌};
+ghost use Rattle.reader.specs.Said.{number_of};
+
 mod decode;
 pub mod place;
 pub mod trace;
 
 use dtml::Call;
 
-// What stands at a place of the trace: its end, a record that is refused, or one of so many bytes, its length bytes among them, with its call.
+// Why a trace is refused, or a record of it.
 #[derive(Clone, Copy)]
-pub enum Item {
-    End,
-    Stops { refusal: u64 },
-    Does { call: Call, bytes: usize },
+pub enum TraceRefusal {
+    UnknownKind,
+    WrongLength,
+    WrongVersion,
+    CutShort,
+    WrongSize,
+    TooLong,
 }
+
+// A record of the trace: the call that it asks for, and how many bytes it has, its length bytes among them.
+#[derive(Clone, Copy)]
+pub struct Record {
+    pub call: Call,
+    pub bytes: usize,
+}
+
+// What stands at a place of the trace: nothing at its end, else a record, or one that is refused.
+pub type Item = Option<Result<Record, TraceRefusal>>;
 
 // What stands at a place, and the place after it: past a record that asks for something; else there is nothing to go past, and it is the same place.
 #[derive(Clone, Copy)]
@@ -23,9 +39,16 @@ pub struct Seen {
     pub after: usize,
 }
 
-// What the header says: a refusal, 0 if there is none, and N.
-#[derive(Clone, Copy)]
-pub struct Header {
-    pub refusal: u64,
-    pub words: usize,
+// The number that a refusal is printed as.
+pub fn number(refusal: TraceRefusal) -> u64
+    ensures { result ≡ number_of refusal }
+{
+    match refusal {
+        TraceRefusal::UnknownKind => 17,
+        TraceRefusal::WrongLength => 18,
+        TraceRefusal::WrongVersion => 19,
+        TraceRefusal::CutShort => 20,
+        TraceRefusal::WrongSize => 21,
+        TraceRefusal::TooLong => 22,
+    }
 }

@@ -1,7 +1,7 @@
 // A trace with a place in it. What takes it apart is thin: the work is `seen_at`'s, on the bytes and the place.
 ghost use Rattle.std.specs.Prelude.{◌≡◌, drop};
 ghost use Rattle.reader.specs.Trace.{found};
-ghost use Rattle.reader.specs.Said.{place_after, moved_on};
+ghost use Rattle.reader.specs.Said.{item, place_after, moved_on};
 
 use crate::trace::seen_at;
 use crate::{Item, Seen};
@@ -22,7 +22,7 @@ pub struct Read<'a> {
 
 // What stands at the reader's place, and the reader moved on.
 pub fn next<'a>(reader: Reader<'a>) -> Read<'a>
-    ensures { (result.item ≡ found (drop reader.entry.at reader.entry.trace.now))
+    ensures { (item result.item ≡ found (drop reader.entry.at reader.entry.trace.now))
         × (result.reader ≡ moved_on reader.entry) }
 {
     let seen = seen_at(reader.trace, reader.at);
@@ -37,7 +37,7 @@ pub fn next<'a>(reader: Reader<'a>) -> Read<'a>
 
 // The same for a caller that has the bytes and the place apart.
 pub fn read_at(trace: &[u8], at: usize) -> Seen
-    ensures { (result.item ≡ found (drop at trace.now))
+    ensures { (item result.item ≡ found (drop at trace.now))
         × (result.after ≡ place_after at (found (drop at trace.now))) }
 {
     let read = next(Reader { trace, at });

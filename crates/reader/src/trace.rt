@@ -1,66 +1,53 @@
 // The header, and the record at a place.
-ghost use Rattle.std.specs.Prelude.{◌≡◌, drop};
+ghost use Rattle.std.specs.Prelude.{◌≡◌, ◌<◌, length, drop};
 ghost use Rattle.reader.specs.Trace.{found};
-ghost use Rattle.reader.specs.Said.{place_after, header_of};
+ghost use Rattle.reader.specs.Said.{header_said, header_of, item, read, place_after};
 
 use crate::decode::{record, two};
-use crate::{Header, Item, Seen};
+use crate::{Item, Record, Seen, TraceRefusal};
 
-fn refused(number: u64) -> Header
-    ensures { result ≡ record { refusal = number; words = 0 } }
-{
-    Header {
-        refusal: number,
-        words: 0,
-    }
-}
-
-// A refusal, or N: the document's checks in their order.
+// N, or a refusal: the document's checks in their order.
 #[tactic(auto, unfolding(crate::specs::Said::header_of))]
-pub fn header(trace: &[u8]) -> Header
-    ensures { result ≡ header_of trace.now }
+pub fn header(trace: &[u8]) -> Result<usize, TraceRefusal>
+    ensures { header_said result ≡ header_of trace.now }
 {
-    let none = trace.len() == 0;
+    let none = trace.is_empty();
     let short = trace.len() < 3;
     if 65536 < trace.len() {
-        return refused(22);
+        return Err(TraceRefusal::TooLong);
     }
     if none {
-        return refused(20);
+        return Err(TraceRefusal::CutShort);
     }
     if trace[0] != 1 {
-        return refused(19);
+        return Err(TraceRefusal::WrongVersion);
     }
     if short {
-        return refused(20);
+        return Err(TraceRefusal::CutShort);
     }
     let words = two(trace, 1) as usize;
-    if words == 0 {
-        return refused(21);
+    if words == 0 || 256 < words {
+        return Err(TraceRefusal::WrongSize);
     }
-    if 256 < words {
-        return refused(21);
-    }
-    Header { refusal: 0, words }
+    Ok(words)
 }
 
-// The record at a place; past the trace's end there is none.
-fn item_at(trace: &[u8], at: usize) -> Item
-    ensures { result ≡ found (drop at trace.now) }
+// The record at a place inside the trace.
+#[tactic(auto, using(crate::proofs::Places::one_left, crate::proofs::Places::no_body, crate::proofs::Places::beyond, crate::proofs::Places::within))]
+fn record_at(trace: &[u8], at: usize) -> Result<Record, TraceRefusal>
+    requires { at < length trace.now }
+    ensures { read result ≡ found (drop at trace.now) }
 {
-    if trace.len() <= at {
-        return Item::End;
-    }
     let left = trace.len() - at;
     if left < 2 {
-        return Item::Stops { refusal: 20 };
+        return Err(TraceRefusal::CutShort);
     }
     let long = two(trace, at) as usize;
     if long == 0 {
-        return Item::Stops { refusal: 18 };
+        return Err(TraceRefusal::WrongLength);
     }
     if left - 2 < long {
-        return Item::Stops { refusal: 20 };
+        return Err(TraceRefusal::CutShort);
     }
     // the body, without the two bytes of its length
     let start = at + 2;
@@ -68,15 +55,26 @@ fn item_at(trace: &[u8], at: usize) -> Item
     record(&trace[start..end])
 }
 
+// The record at a place; past the trace's end there is none.
+#[tactic(auto, using(crate::proofs::Places::none_left))]
+fn item_at(trace: &[u8], at: usize) -> Item
+    ensures { item result ≡ found (drop at trace.now) }
+{
+    if trace.len() <= at {
+        return None;
+    }
+    Some(record_at(trace, at))
+}
+
 // The same with the place after it.
 pub(crate) fn seen_at(trace: &[u8], at: usize) -> Seen
-    ensures { (result.item ≡ found (drop at trace.now)) × (result.after ≡ place_after at (found (drop at trace.now))) }
+    ensures { (item result.item ≡ found (drop at trace.now)) × (result.after ≡ place_after at (found (drop at trace.now))) }
 {
     let item = item_at(trace, at);
     let after = match item {
-        Item::Does { bytes, .. } => at + bytes,
-        Item::Stops { .. } => at,
-        Item::End => at,
+        Some(Ok(record)) => at + record.bytes,
+        Some(Err(_)) => at,
+        None => at,
     };
     Seen { item, after }
 }
