@@ -2,16 +2,17 @@
 use Prim.Native.Nat.{ℕ, ◌^◌, ◌≤◌, ◌<◌}
 use native.Mathlib.Omega.{arith}
 use borrow.Author.Tests.{eq-eqb, ne_eqb}
-use mathlib.Core.Path.{◌≡◌, sym, ap, ◌∙◌}
-use mathlib.Core.List.{List}
+use mathlib.Core.Path.{◌≡◌}
+use mathlib.Core.List.{List, []}
 use lib.ListN.{length}
+use lib.Dec.{eqb}
 use Rattle.std.specs.Prelude.{Result, Ok, Err}
 use Rattle.dtml.specs.declared.Answer.{Answer}
 use Rattle.dtml.specs.declared.Answer.TheVariants.{Taken, Begun, Read, Written, Committed, Aborted, Recovered}
 use Rattle.dtml.specs.declared.Refusal.{Refusal}
 use Rattle.dtml.specs.declared.Refusal.TheVariants.{Unfit, NoWord, NoRecord, NotIdle, NotFresh, NotReady, NoLine, Idle}
 use Rattle.dtml.specs.Table.{reply}
-use Rattle.text.specs.Buffer.{buffer, puts}
+use Rattle.dtml.proofs.Words.{pick-case}
 use Rattle.text.specs.Text.{answer_line}
 use Rattle.text.proofs.Laws.{answer-short}
 use Rattle.day.specs.Replay.{answer_text}
@@ -33,15 +34,14 @@ two_digits (Err NotReady) = omega arith
 two_digits (Err NoLine) = omega arith
 two_digits (Err Idle) = omega arith
 
-module _ (out : List ℕ) (at k : ℕ) (a : Result Answer Refusal) (n : ℕ) (numbered : n ≡ (reply a).number) where
-  pub no_line : n ≡ 0 → (buffer out at ≡ puts (buffer out at) (answer_text k (reply a))) × (length (answer_text k (reply a)) ≤ 30)
-  unfolding puts
-  no_line z = (rw (sym numbered, eq-eqb n 0 z), rw (sym numbered, eq-eqb n 0 z) (omega arith))
+-- an answer 0 has no line
+pub no_line : (k : ℕ) (a : Result Answer Refusal) → (reply a).number ≡ 0 → answer_text k (reply a) ≡ []
+no_line k a z = rw (eq-eqb (reply a).number 0 z)
 
-  pub one_line : (n ≡ 0 → ⊥) → (v : ℕ) → v ≡ (reply a).value → v < 2 ^ 64 → k < 100000 → (out' : List ℕ) (place : ℕ)
-      → buffer out' place ≡ puts (buffer out at) (answer_line k n v)
-      → (buffer out' place ≡ puts (buffer out at) (answer_text k (reply a))) × (length (answer_text k (reply a)) ≤ 30)
-  one_line some v valued wide few out' place e =
-      let small : n < 100 = rw numbered (two_digits a) in
-      let is : answer_text k (reply a) ≡ answer_line k n v = rw (sym numbered, sym valued, ne_eqb n 0 some) in
-      (e ∙ ap (puts (buffer out at)) (sym is), rw is (answer-short k n v few small wide))
+pub its-line : (k : ℕ) (a : Result Answer Refusal) → ((reply a).number ≡ 0 → ⊥) → answer_text k (reply a) ≡ answer_line k (reply a).number (reply a).value
+its-line k a some = rw (ne_eqb (reply a).number 0 some)
+
+pub brief-line : (k : ℕ) (a : Result Answer Refusal) → (reply a).value < 2 ^ 64 → k < 100000 → length (answer_text k (reply a)) ≤ 30
+brief-line k a wide few =
+    pick-case (λ (x : List ℕ). length x ≤ 30) (eqb (reply a).number 0) (λ e. omega arith)
+    (λ e. answer-short k (reply a).number (reply a).value few (two_digits a) wide)

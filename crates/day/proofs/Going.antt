@@ -308,30 +308,18 @@ module _ (n : ℕ) (bs first : List ℕ) (s : Store) (t : Totals) (at : ℕ) (o 
       ∙ sym (puts-append (buffer first 0) (answer_lines 1 (answers (fresh n) (script_of bs).calls))
       (end_text (done n (script_of bs)).ending.refusal (done n (script_of bs)).ending.number (done n (script_of bs)).ending.totals))
 
--- ---- the loop, over the code's values
-
-abbrev pub Looping : List ℕ → ℕ → List ℕ → List ℕ → List ℕ → List ℕ → List ℕ → List ℕ → ℕ → Recovery → List Tx → Totals → ℕ → ℕ → Type 0
-Looping trace n out₀ vol pers old out marks glb recovery rows totals at place =
-    Going n trace out₀ (store (memory vol pers old marks glb) recovery rows) totals at (buffer out place) × (length trace ≤ 65536)
-
-pub looping-start : (trace out vol pers old : List ℕ) (held : Held) (txs : List Tx) (t : Totals) → store_of vol pers old held txs ≡ fresh (length vol)
-    → 1 ≤ length vol → length vol ≤ 256 → 3 ≤ length trace → length trace ≤ 65536 → t ≡ totals 0 0 0 0 0
-    → Looping trace (length vol) out vol pers old out held.marks held.glb held.recovery txs t 3 0
-looping-start trace out vol pers old held txs t e some few three short q =
-    (subst (λ (s : Store). Going (length vol) trace out s t 3 (buffer out 0)) (sym e) (rw q (going_start (length vol) trace out some few three)), short)
+-- ---- the loop
 
 -- a record of a trace is one recovery line at the most
 pub one-line-so : (bs : List ℕ) (at : ℕ) (c : Call) (bytes : ℕ) → found (drop at bs) ≡ does c bytes → OneLine c
 one-line-so bs at c bytes = found-asks OneLine (drop at bs) c bytes lines-one
 
-module _ {trace : List ℕ} {n : ℕ} {out₀ vol pers old out marks : List ℕ} {glb : ℕ} {recovery : Recovery} {rows : List Tx} {totals : Totals} {at place : ℕ}
-    (loop : Looping trace n out₀ vol pers old out marks glb recovery rows totals at place) where
-  pub next-record : totals.records < 65536
+module _ {n : ℕ} {bs first : List ℕ} {s : Store} {t : Totals} {at : ℕ} {o : Buffer} (going : Going n bs first s t at o) (short : length bs ≤ 65536) where
+  pub next-record : t.records < 65536
   next-record =
-      let a = loop.0.ahead in
-      let b = loop.0.within in
-      let m = loop.1 in
+      let a = going.ahead in
+      let b = going.within in
       omega arith
 
-  pub few-records : Few 65536 totals
-  few-records = few-below totals.records totals loop.0.few next-record
+  pub few-records : Few 65536 t
+  few-records = few-below t.records t going.few next-record

@@ -1,130 +1,74 @@
 // The end of a replay, and its last lines.
-ghost use Rattle.std.specs.Prelude.{◌+◌, ◌<◌, ◌≡◌, true, false, replicate, eqb};
-ghost use Rattle.bits.specs.Marks.{pick};
-ghost use Rattle.dtml.specs.declared.Phase.TheVariants.{Fresh};
-ghost use Rattle.dtml.specs.Store.{tx as tx_of};
-ghost use Rattle.text.specs.Buffer.{buffer, puts};
-ghost use Rattle.day.specs.Replay.{totals as totals_from, stop_text, end_text};
+ghost use Rattle.std.specs.Prelude.{◌+◌, ◌<◌, ◌≡◌};
+ghost use Rattle.text.specs.Buffer.{puts};
+ghost use Rattle.text.specs.Page.{on_page};
+ghost use Rattle.day.specs.Replay.{stop_text, end_text};
+ghost use Rattle.day.specs.Ends.{stop_number, refusal_in, record_in};
+ghost use Rattle.trace.specs.Turning.{stopped_at};
 
-use day::{Ended, Replayed, Totals};
-use dtml::{Recovery, Tx};
+use day::{Ended, ReplayRefusal, Stopped, Totals};
 use machine::Held;
-use machine::work::blank;
-use marks::Marks;
-use text::{put_stop, put_totals};
+use reader::{TraceRefusal, number};
+use text::Page;
 
-// Before the first record.
-pub(crate) fn nothing() -> Totals
-    ensures { result ≡ totals_from 0 0 0 0 0 }
+fn stop_number(refusal: ReplayRefusal) -> u64
+    ensures { result ≡ stop_number refusal }
 {
-    Totals {
-        records: 0,
-        crashes: 0,
-        lines: 0,
-        cut: 0,
-        committed: 0,
+    match refusal {
+        ReplayRefusal::Unfit => 9,
+        ReplayRefusal::Trace { refusal } => number(refusal),
     }
 }
 
-// The number of the record after those done, if it was refused.
-fn stopped_at(refusal: u64, records: u64) -> u64
-    requires { records < 65536 }
-    ensures { result ≡ pick (eqb refusal 0) 0 (records + 1) }
+// The X line, if something stopped the replay.
+fn put_stop_if(page: &mut Page, stopped: Option<Stopped>)
+    ensures same { page.new.bytes.ghost_name ≡ page.old.bytes.ghost_name }
+    ensures text { on_page page.new ≡ puts (on_page page.old) (stop_text (refusal_in stopped) (record_in stopped)) }
 {
-    if refusal == 0 {
-        return 0;
+    match stopped {
+        Some(stop) => page.put_stop(stop_number(stop.refusal), stop.number),
+        None => {}
     }
-    records + 1
 }
 
-// The X line, if a refusal stopped the replay.
-fn put_stop_if(out: &mut [u8], at: usize, refusal: u64, number: u64) -> usize
-    ensures { buffer out.new result ≡ puts (buffer out.old at) (stop_text refusal number) }
+fn put_end(page: &mut Page, stopped: Option<Stopped>, totals: Totals)
+    ensures same { page.new.bytes.ghost_name ≡ page.old.bytes.ghost_name }
+    ensures text { on_page page.new ≡ puts (on_page page.old) (end_text (refusal_in stopped) (record_in stopped) totals) }
 {
-    if refusal == 0 {
-        return at;
-    }
-    put_stop(out, at, refusal, number)
-}
-
-fn put_end(out: &mut [u8], at: usize, refusal: u64, number: u64, totals: Totals) -> usize
-    ensures { buffer out.new result ≡ puts (buffer out.old at) (end_text refusal number totals) }
-{
-    let at = put_stop_if(out, at, refusal, number);
-    put_totals(
-        out,
-        at,
+    put_stop_if(page, stopped);
+    page.put_totals(
         totals.records,
         totals.crashes,
         totals.lines,
         totals.cut,
         totals.committed,
-    )
+    );
 }
 
-pub(crate) fn ended(
-    out: &mut [u8],
-    at: usize,
-    refusal: u64,
-    number: u64,
-    totals: Totals,
-    held: Held,
-) -> Ended
-    ensures { (result ≡ record { refusal = refusal; number = number; totals = totals; length = result.length; held = held })
-        × (buffer out.new result.length ≡ puts (buffer out.old at) (end_text refusal number totals)) }
+pub(crate) fn ended(page: &mut Page, stopped: Option<Stopped>, totals: Totals, held: Held) -> Ended
+    ensures same { page.new.bytes.ghost_name ≡ page.old.bytes.ghost_name }
+    ensures end { result ≡ record { stopped = stopped; totals = totals; length = page.new.at; held = held } }
+    ensures text { on_page page.new ≡ puts (on_page page.old) (end_text (refusal_in stopped) (record_in stopped) totals) }
 {
-    let length = put_end(out, at, refusal, number, totals);
+    put_end(page, stopped, totals);
     Ended {
-        refusal,
-        number,
+        stopped,
         totals,
-        length,
+        length: page.at,
         held,
     }
 }
 
-// After the last record that was done: the trace has ended, or the next record is refused.
-pub(crate) fn over(
-    out: &mut [u8],
-    at: usize,
-    refusal: u64,
-    totals: Totals,
-    marks: Marks,
-    glb: u32,
-    recovery: Recovery,
-) -> Ended
-    requires { totals.records < 65536 }
-    ensures { (result ≡ record { refusal = refusal; number = pick (eqb refusal 0) 0 (totals.records + 1); totals = totals; length = result.length; held = record { marks = marks; glb = glb; recovery = recovery } })
-        × (buffer out.new result.length ≡ puts (buffer out.old at) (end_text refusal (pick (eqb refusal 0) 0 (totals.records + 1)) totals)) }
+// After so many records the next one is refused, or the trace has ended.
+pub(crate) fn stopped_at(refusal: Option<TraceRefusal>, records: u64) -> Option<Stopped>
+    requires { records < 65536 }
+    ensures { result ≡ stopped_at refusal records }
 {
-    let number = stopped_at(refusal, totals.records);
-    let held = Held {
-        marks,
-        glb,
-        recovery,
-    };
-    ended(out, at, refusal, number, totals, held)
-}
-
-// The row of records is to be these.
-pub(crate) fn changed(ended: Ended, txs: [Tx; 64]) -> Replayed
-    ensures { result ≡ record { ended = ended; changed = true; txs = txs } }
-{
-    Replayed {
-        ended,
-        changed: true,
-        txs,
-    }
-}
-
-// The row of records stays as it is.
-pub(crate) fn kept(ended: Ended) -> Replayed
-    ensures { result ≡ record { ended = ended; changed = false; txs = replicate 64 (tx_of 0 Fresh) } }
-{
-    let txs = blank();
-    Replayed {
-        ended,
-        changed: false,
-        txs,
+    match refusal {
+        Some(refusal) => Some(Stopped {
+            refusal: ReplayRefusal::from(refusal),
+            number: records + 1,
+        }),
+        None => None,
     }
 }

@@ -5,34 +5,43 @@
 mod finish;
 mod run;
 
-ghost use Rattle.std.specs.Prelude.{◌≡◌, not, [], ◌∷◌, eqb};
-ghost use Rattle.dtml.specs.First.{any_of};
+ghost use Rattle.std.specs.Prelude.{◌≡◌};
 ghost use Rattle.machine.specs.Given.{store_of};
 ghost use Rattle.day.specs.Replay.{replay as replayed};
-ghost use Rattle.day.specs.Ends.{Ends, EndsBeside};
+ghost use Rattle.day.specs.Ends.{misfit, begun, begun_said, Ends, EndsBeside};
 
-use crate::finish::{ended, kept, nothing};
+use crate::finish::ended;
 use crate::run::run;
-use day::{Ended, Replayed};
+use day::{Ended, ReplayRefusal, Replayed, Stopped, Totals};
 use dtml::Tx;
 use machine::Held;
-use machine::work::renew;
+use machine::work::zero;
+use parts::memory::Memory;
 use reader::trace::header;
+use text::Page;
 
 // Some word row is not as long as the header's N, or the row of records is not 64 long; vol, pers, old and txs are the rows' lengths.
 fn unfit_for(n: usize, vol: usize, pers: usize, old: usize, txs: usize) -> bool
-    ensures { result ≡ any_of (not (eqb vol n) ∷ not (eqb pers n) ∷ not (eqb old n) ∷ not (eqb txs 64) ∷ []) }
+    ensures { result ≡ misfit vol pers old txs n }
 {
-    if vol != n {
-        return true;
+    vol != n || pers != n || old != n || txs != 64
+}
+
+// N, if the header is sound and rows of these lengths fit it.
+fn begun(
+    trace: &[u8],
+    vol: usize,
+    pers: usize,
+    old: usize,
+    txs: usize,
+) -> Result<usize, ReplayRefusal>
+    ensures { begun_said result ≡ begun trace.now vol pers old txs }
+{
+    let words = header(trace)?;
+    if unfit_for(words, vol, pers, old, txs) {
+        return Err(ReplayRefusal::Unfit);
     }
-    if pers != n {
-        return true;
-    }
-    if old != n {
-        return true;
-    }
-    txs != 64
+    Ok(words)
 }
 
 // Makes the store fresh and does the trace's records, one by one. The text is put into out from its start. Of the row of records, which is not lent, only
@@ -49,19 +58,26 @@ pub fn replay_beside(
     ensures { EndsBeside trace.now (store_of vol.old pers.old old.old held) txs result
         vol.new pers.new old.new out.old out.new }
 {
-    let head = header(trace);
-    let refusal = head.refusal;
-    let words = head.words;
-    if refusal != 0 {
-        return kept(ended(out, 0, refusal, 0, nothing(), held));
+    let mut page = Page { bytes: out, at: 0 };
+    if let Err(refusal) = begun(trace, vol.len(), pers.len(), old.len(), txs) {
+        let stopped = Some(Stopped { refusal, number: 0 });
+        return Replayed {
+            ended: ended(&mut page, stopped, Totals::NONE, held),
+            txs: None,
+        };
     }
-    if unfit_for(words, vol.len(), pers.len(), old.len(), txs) {
-        return kept(ended(out, 0, 9, 0, nothing(), held));
-    }
-    let start = renew(vol, pers, old, held, txs);
-    let after = start.after;
-    let fresh_held = after.held;
-    run(trace, vol, pers, old, fresh_held, out)
+    zero(vol);
+    zero(pers);
+    zero(old);
+    let marks = Held::FRESH.marks;
+    let mut memory = Memory {
+        vol,
+        pers,
+        old_words: old,
+        marks,
+        glb: 0,
+    };
+    run(trace, &mut memory, &mut page)
 }
 
 // The same on a lent row of records, which is left as it is or has 64 records of the store after the trace.
@@ -78,6 +94,6 @@ pub fn replay(
         vol.new pers.new old.new txs.new out.old out.new }
 {
     let done = replay_beside(trace, vol, pers, old, held, txs.len(), out);
-    records::store_if(txs, done.changed, done.txs);
+    records::store_if(txs, done.txs);
     done.ended
 }

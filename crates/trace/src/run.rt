@@ -1,58 +1,53 @@
 // The records of a trace, done one by one.
-ghost use Rattle.std.specs.Prelude.{◌+◌, ◌≤◌, ◌<◌, ◌≡◌, true, false, length, replicate, eqb, leb};
+ghost use Rattle.std.specs.Prelude.{◌+◌, ◌≤◌, ◌<◌, ◌≡◌, Some, length, replicate, eqb};
 ghost use Rattle.bits.specs.Marks.{pick, count_of};
 ghost use Rattle.dtml.specs.Table.{reply};
 ghost use Rattle.dtml.specs.declared.Phase.TheVariants.{Fresh};
-ghost use Rattle.dtml.specs.Store.{memory, store, fresh, tx as tx_of};
-ghost use Rattle.dtml.specs.Lines.{crash_txs};
+ghost use Rattle.dtml.specs.declared.Call.{Call};
+ghost use Rattle.dtml.specs.declared.Call.TheVariants.{On as on, Of as sys_asked};
+ghost use Rattle.dtml.specs.Store.{store, fresh, tx as tx_of};
 ghost use Rattle.dtml.specs.Checks.{not_idle};
-ghost use Rattle.machine.specs.Given.{store_of};
+ghost use Rattle.parts.specs.Lent.{memory_of, SameRows};
 ghost use Rattle.reader.specs.Trace.{script_of};
 ghost use Rattle.text.specs.Buffer.{buffer, puts};
+ghost use Rattle.text.specs.Page.{on_page};
 ghost use Rattle.day.specs.Replay.{totals as totals_from, answer_text, done as done_of};
 ghost use Rattle.day.specs.Ends.{Ends};
 ghost use Rattle.day.specs.Counted.{Few};
-ghost use Rattle.dtml.specs.declared.Call.TheVariants.{On as on};
-ghost use Rattle.dtml.specs.declared.Call.TheVariants.{Of as sys_asked};
-ghost use Rattle.trace.specs.Turning.{slot_at, call_moment, turn_of, OneLine, OneLineAt, Moves, Brief, BriefAt, Through, on_course, still_of};
+ghost use Rattle.trace.specs.Turning.{call_moment, moment_of, OneLine, Brief, Through, Ready, Runs, refusal_of};
 
-use crate::finish::{changed, nothing, over};
+use crate::finish::{ended, stopped_at};
 use day::{Replayed, Totals};
-use dtml::{Answer, Ask, Call, Phase, Recovery, Sys, Tx};
+use dtml::{Answer, Answered, Ask, Call, Recovery, Refusal, Sys, Tx};
 use lines::call_one;
-use lines::turn::Turn;
 use machine::Held;
-use machine::work::{blank, place_of};
+use machine::work::{blank, slot};
 use marks::Marks;
 use parts::answer::{number, value};
+use parts::memory::Memory;
 use parts::stages::not_idle;
-use reader::Item;
 use reader::place::{Reader, next};
-use system::{Event, call_system, crash_tx};
-use text::put_answer;
+use reader::{Item, TraceRefusal};
+use records::crash_if;
+use system::{Event, call_system};
+use text::Page;
 
 // A commit, 1, or none.
-fn commits(answer: Answer) -> u64
+fn commits(answer: Answered) -> u64
     ensures { (result ≡ pick (eqb (reply answer).number 4) 1 0) × (result ≤ 1) }
 {
-    if number(answer) == 4 {
-        return 1;
-    }
-    0
+    u64::from(matches!(answer, Ok(Answer::Committed)))
 }
 
 // The numbers of the T line after a call on a record.
-fn turned(totals: Totals, answer: Answer) -> Totals
+fn turned(totals: Totals, answer: Answered) -> Totals
     requires { Few 65536 totals }
     ensures { result ≡ totals_from (totals.records + 1) totals.crashes totals.lines totals.cut (totals.committed + pick (eqb (reply answer).number 4) 1 0) }
 {
-    let more = commits(answer);
     Totals {
         records: totals.records + 1,
-        crashes: totals.crashes,
-        lines: totals.lines,
-        cut: totals.cut,
-        committed: totals.committed + more,
+        committed: totals.committed + commits(answer),
+        ..totals
     }
 }
 
@@ -66,7 +61,7 @@ fn added(totals: Totals, crashes: u64, lines: u64, cut: u64) -> Totals
         crashes: totals.crashes + crashes,
         lines: totals.lines + lines,
         cut: totals.cut + cut,
-        committed: totals.committed,
+        ..totals
     }
 }
 
@@ -81,360 +76,216 @@ fn cut_by_crash(recovery: Recovery, marks: &Marks) -> u64
 }
 
 // The line of a record that was answered other than 0.
-fn put_answer_if(out: &mut [u8], at: usize, record_number: u64, answer: Answer) -> usize
+fn put_answer_if(page: &mut Page, record_number: u64, answer: Answer)
     requires { record_number < 100000 }
-    ensures { (buffer out.new result ≡ puts (buffer out.old at) (answer_text record_number (reply answer)))
-        × (length (answer_text record_number (reply answer)) ≤ 30) }
+    ensures same { page.new.bytes.ghost_name ≡ page.old.bytes.ghost_name }
+    ensures text { on_page page.new ≡ puts (on_page page.old) (answer_text record_number (reply (Ok answer))) }
+    ensures brief { length (answer_text record_number (reply (Ok answer))) ≤ 30 }
 {
-    let n = number(answer);
-    if n == 0 {
-        return at;
+    let n = number(Ok(answer));
+    if n != 0 {
+        page.put_answer(record_number, n, value(Ok(answer)));
     }
-    put_answer(out, at, record_number, n, value(answer))
 }
 
 // The line of a record that was refused.
-fn put_refusal(out: &mut [u8], at: usize, record_number: u64, answer: Answer) -> usize
-    requires { (record_number < 100000) × (leb 9 (reply answer).number ≡ true) }
-    ensures { (buffer out.new result ≡ puts (buffer out.old at) (answer_text record_number (reply answer)))
-        × (length (answer_text record_number (reply answer)) ≤ 30) }
+fn put_refusal(page: &mut Page, record_number: u64, refusal: Refusal)
+    requires { record_number < 100000 }
+    ensures same { page.new.bytes.ghost_name ≡ page.old.bytes.ghost_name }
+    ensures text { on_page page.new ≡ puts (on_page page.old) (answer_text record_number (reply (Err refusal))) }
+    ensures brief { length (answer_text record_number (reply (Err refusal))) ≤ 30 }
 {
-    put_answer(out, at, record_number, number(answer), value(answer))
+    page.put_answer(record_number, number(Err(refusal)), value(Err(refusal)));
 }
 
-// What a crash leaves of the records.
-fn crash_txs(txs: [Tx; 64]) -> [Tx; 64]
-    ensures { result ≡ crash_txs txs }
-{
-    let mut next = txs;
-    let mut i: usize = 0;
-    while i < 64 {
-        let tx = next[i];
-        next[i] = crash_tx(tx);
-        i += 1;
-    }
-    next
-}
-
-// How far a replay has come: the count, the numbers of the T line, and how long the text is. It goes on, or the trace has ended, or a record is refused.
+// What a record of the trace changes beside the memory: nothing; the transaction's record that was handed over; recovery; or, a crash, recovery and every record.
 #[derive(Clone, Copy)]
-pub(crate) struct Course {
-    pub glb: u32,
-    pub totals: Totals,
-    pub place: usize,
-    pub going: bool,
-    pub refusal: u64,
+pub(crate) enum Change {
+    Nothing,
+    Record { tx: Tx },
+    Recovery { recovery: Recovery },
+    Crash,
 }
 
-// What one item leaves: how far the replay has come; the record that was handed over, if it was changed; recovery, if it was changed; and whether a crash
-// reached every record.
+// What a record of the trace leaves beside the memory and the text.
 #[derive(Clone, Copy)]
 pub(crate) struct Moved {
-    pub course: Course,
-    pub tx: Tx,
-    pub recovery: Recovery,
-    pub turned: bool,
-    pub recovers: bool,
-    pub crashed: bool,
+    pub totals: Totals,
+    pub change: Change,
 }
 
-// What all items leave.
+// What all records leave beside the memory and the text: why the next one is refused, if the trace has not ended.
 #[derive(Clone, Copy)]
 pub(crate) struct Reached {
-    pub course: Course,
+    pub refusal: Option<TraceRefusal>,
+    pub totals: Totals,
     pub recovery: Recovery,
     pub txs: [Tx; 64],
 }
 
-fn first() -> Course
-    ensures { result ≡ on_course 0 (totals_from 0 0 0 0 0) 0 }
-{
-    let totals = nothing();
-    going_on(0, totals, 0)
-}
-
-fn idle() -> Recovery
-    ensures { result ≡ Recovery.Idle }
-{
-    Recovery::Idle
-}
-
-// After a record.
-fn going_on(glb: u32, totals: Totals, place: usize) -> Course
-    ensures { result ≡ on_course glb totals place }
-{
-    Course {
-        glb,
-        totals,
-        place,
-        going: true,
-        refusal: 0,
-    }
-}
-
-// Neither the record nor recovery is changed.
-fn still(course: Course, tx: Tx) -> Moved
-    ensures { result ≡ still_of course tx }
-{
-    Moved {
-        course,
-        tx,
-        recovery: Recovery::Idle,
-        turned: false,
-        recovers: false,
-        crashed: false,
-    }
-}
-
-// The record is changed to this one.
-fn went(course: Course, tx: Tx) -> Moved
-    ensures { result ≡ record { course = course; tx = tx; recovery = Recovery.Idle; turned = true; recovers = false; crashed = false } }
-{
-    Moved {
-        course,
-        tx,
-        recovery: Recovery::Idle,
-        turned: true,
-        recovers: false,
-        crashed: false,
-    }
-}
-
-// Recovery is changed to this.
-fn recovering(course: Course, recovery: Recovery, crashed: bool) -> Moved
-    ensures { result ≡ record { course = course; tx = tx_of 0 Fresh; recovery = recovery; turned = false; recovers = true; crashed = crashed } }
-{
-    let tx = Tx {
-        loc: 0,
-        phase: Phase::Fresh,
-    };
-    Moved {
-        course,
-        tx,
-        recovery,
-        turned: false,
-        recovers: true,
-        crashed,
-    }
-}
-
-// No record more is done.
-fn stop(course: Course, tx: Tx, refusal: u64) -> Moved
-    ensures { result ≡ still_of (record { glb = course.glb; totals = course.totals; place = course.place; going = false; refusal = refusal }) tx }
-{
-    let totals = course.totals;
-    let over = Course {
-        glb: course.glb,
-        totals,
-        place: course.place,
-        going: false,
-        refusal,
-    };
-    still(over, tx)
-}
-
-// The record that an item names; where it names none, record 0 is handed over, and stays.
-fn slot_of(item: Item) -> usize
-    ensures { (result ≡ slot_at item) × (result < 64) }
-{
-    match item {
-        Item::Does { call, .. } => match call {
-            Call::On { id, .. } => place_of(id),
-            Call::Of { .. } => 0,
-        },
-        Item::Stops { .. } => 0,
-        Item::End => 0,
-    }
-}
-
 // A call on a record is done on what it is handed, counted, and its line put.
 fn on_record(
-    vol: &mut [u32],
-    pers: &mut [u32],
-    old: &mut [u32],
-    marks: &mut Marks,
-    out: &mut [u8],
-    course: Course,
+    memory: &mut Memory,
+    page: &mut Page,
+    totals: Totals,
     recovery: Recovery,
     tx: Tx,
     id: u64,
     ask: Ask,
 ) -> Moved
-    requires { Few 65536 course.totals }
-    ensures { Moves result (memory vol.new pers.new old.new marks.new result.course.glb) out.new recovery tx
-        (call_moment (memory vol.old pers.old old.old marks.old course.glb) recovery tx course out.old (on id ask))
-        × Brief (memory vol.old pers.old old.old marks.old course.glb) recovery tx course (on id ask) }
+    requires { Few 65536 totals }
+    ensures rows { SameRows memory.old memory.new }
+    ensures page { page.new.bytes.ghost_name ≡ page.old.bytes.ghost_name }
+    ensures moves { moment_of result (memory_of memory.new) (on_page page.new) recovery tx
+        ≡ call_moment (memory_of memory.old) recovery tx totals (on_page page.old) (on id ask) }
+    ensures brief { Brief (memory_of memory.old) recovery tx totals (on id ask) }
 {
-    let mut glb = course.glb;
-    let before = course.totals;
-    let place = course.place;
-    let turn = call_one(vol, pers, old, marks, &mut glb, recovery, id, tx, ask);
-    match turn {
-        Turn::Refused { answer } => {
-            let totals = turned(before, answer);
-            let put = put_refusal(out, place, totals.records, answer);
-            still(going_on(glb, totals, put), tx)
+    match call_one(memory, recovery, id, tx, ask) {
+        Ok(turn) => {
+            let totals = turned(totals, Ok(turn.answer));
+            put_answer_if(page, totals.records, turn.answer);
+            let change = Change::Record { tx: turn.tx };
+            Moved { totals, change }
         }
-        Turn::Went { answer, tx: next } => {
-            let totals = turned(before, answer);
-            let put = put_answer_if(out, place, totals.records, answer);
-            went(going_on(glb, totals, put), next)
+        Err(refusal) => {
+            let totals = turned(totals, Err(refusal));
+            put_refusal(page, totals.records, refusal);
+            let change = Change::Nothing;
+            Moved { totals, change }
         }
     }
 }
 
 // The same of a call on none.
 fn on_none(
-    vol: &mut [u32],
-    pers: &mut [u32],
-    old: &[u32],
-    marks: &mut Marks,
-    out: &mut [u8],
-    course: Course,
+    memory: &mut Memory,
+    page: &mut Page,
+    totals: Totals,
     recovery: Recovery,
     tx: Tx,
     sys: Sys,
 ) -> Moved
-    requires { Few 65536 course.totals × OneLine (sys_asked sys) }
-    ensures { Moves result (memory vol.new pers.new old.now marks.new result.course.glb) out.new recovery tx
-        (call_moment (memory vol.old pers.old old.now marks.old course.glb) recovery tx course out.old (sys_asked sys))
-        × Brief (memory vol.old pers.old old.now marks.old course.glb) recovery tx course (sys_asked sys) }
+    requires { Few 65536 totals × OneLine (sys_asked sys) }
+    ensures rows { SameRows memory.old memory.new }
+    ensures page { page.new.bytes.ghost_name ≡ page.old.bytes.ghost_name }
+    ensures moves { moment_of result (memory_of memory.new) (on_page page.new) recovery tx
+        ≡ call_moment (memory_of memory.old) recovery tx totals (on_page page.old) (sys_asked sys) }
+    ensures brief { Brief (memory_of memory.old) recovery tx totals (sys_asked sys) }
 {
-    let mut glb = course.glb;
-    let before = course.totals;
-    let place = course.place;
-    let event = call_system(vol, pers, old, marks, &mut glb, recovery, sys);
-    match event {
-        Event::Refused { answer } => {
-            let totals = added(before, 0, 0, 0);
-            let put = put_refusal(out, place, totals.records, answer);
-            still(going_on(glb, totals, put), tx)
+    match call_system(memory, recovery, sys) {
+        Ok(Event::Flushed) => Moved {
+            totals: added(totals, 0, 0, 0),
+            change: Change::Nothing,
+        },
+        Ok(Event::Crashed) => Moved {
+            totals: added(totals, 1, 0, cut_by_crash(recovery, &memory.marks)),
+            change: Change::Crash,
+        },
+        Ok(
+            Event::RecoveryLines {
+                answer,
+                lines,
+                recovery: next,
+            },
+        ) => {
+            let totals = added(totals, 0, lines, 0);
+            put_answer_if(page, totals.records, answer);
+            let change = Change::Recovery { recovery: next };
+            Moved { totals, change }
         }
-        Event::Flushed => still(going_on(glb, added(before, 0, 0, 0), place), tx),
-        Event::Crashed => {
-            let totals = added(before, 1, 0, cut_by_crash(recovery, &*marks));
-            recovering(going_on(glb, totals, place), Recovery::C1, true)
-        }
-        Event::RecoveryLines {
-            answer,
-            lines,
-            recovery: next,
-        } => {
-            let totals = added(before, 0, lines, 0);
-            let put = put_answer_if(out, place, totals.records, answer);
-            recovering(going_on(glb, totals, put), next, false)
+        Err(refusal) => {
+            let totals = added(totals, 0, 0, 0);
+            put_refusal(page, totals.records, refusal);
+            let change = Change::Nothing;
+            Moved { totals, change }
         }
     }
 }
 
-// One item of the trace.
+// One record of the trace; tx is the transaction's record that its call is on.
 fn turn(
-    vol: &mut [u32],
-    pers: &mut [u32],
-    old: &mut [u32],
-    marks: &mut Marks,
-    out: &mut [u8],
-    course: Course,
+    memory: &mut Memory,
+    page: &mut Page,
+    totals: Totals,
     recovery: Recovery,
     tx: Tx,
-    item: Item,
+    call: Call,
 ) -> Moved
-    requires { Few 65536 course.totals × OneLineAt item }
-    ensures { Moves result (memory vol.new pers.new old.new marks.new result.course.glb) out.new recovery tx
-        (turn_of (memory vol.old pers.old old.old marks.old course.glb) recovery tx course out.old item)
-        × BriefAt (memory vol.old pers.old old.old marks.old course.glb) recovery tx course item }
+    requires { Few 65536 totals × OneLine call }
+    ensures rows { SameRows memory.old memory.new }
+    ensures page { page.new.bytes.ghost_name ≡ page.old.bytes.ghost_name }
+    ensures moves { moment_of result (memory_of memory.new) (on_page page.new) recovery tx
+        ≡ call_moment (memory_of memory.old) recovery tx totals (on_page page.old) call }
+    ensures brief { Brief (memory_of memory.old) recovery tx totals call }
 {
-    match item {
-        Item::Does { call, .. } => match call {
-            Call::On { id, ask } => on_record(
-                vol, pers, old, marks, out, course, recovery, tx, id, ask,
-            ),
-            Call::Of { sys } => on_none(vol, pers, &*old, marks, out, course, recovery, tx, sys),
-        },
-        Item::Stops { refusal } => stop(course, tx, refusal),
-        Item::End => stop(course, tx, 0),
+    match call {
+        Call::On { id, ask } => on_record(memory, page, totals, recovery, tx, id, ask),
+        Call::Of { sys } => on_none(memory, page, totals, recovery, tx, sys),
     }
 }
 
-fn all_done(course: Course, recovery: Recovery, txs: [Tx; 64]) -> Reached
-    ensures { result ≡ record { course = course; recovery = recovery; txs = txs } }
+// Why an item is refused, if it is.
+fn refusal_of(item: Item) -> Option<TraceRefusal>
+    ensures { result ≡ refusal_of item }
 {
-    Reached {
-        course,
-        recovery,
-        txs,
+    match item {
+        Some(Err(refusal)) => Some(refusal),
+        _ => None,
     }
 }
 
 // The loop holds the reader, which moves on past each record.
-fn go_through(
-    trace: &[u8],
-    vol: &mut [u32],
-    pers: &mut [u32],
-    old: &mut [u32],
-    marks: &mut Marks,
-    out: &mut [u8],
-) -> Reached
-    requires { (store (memory vol.old pers.old old.old marks.old 0) Recovery.Idle (replicate 64 (tx_of 0 Fresh)) ≡ fresh (length vol.old))
-        × (1 ≤ length vol.old) × (length vol.old ≤ 256) × (3 ≤ length trace.now) × (length trace.now ≤ 65536) }
-    ensures { Through (done_of (length vol.old) (script_of trace.now)) result
-        (memory vol.new pers.new old.new marks.new result.course.glb) out.old out.new }
+fn go_through(trace: &[u8], memory: &mut Memory, page: &mut Page) -> Reached
+    requires { Ready trace.now (memory_of memory.old) page.old.at }
+    ensures rows { SameRows memory.old memory.new }
+    ensures page { page.new.bytes.ghost_name ≡ page.old.bytes.ghost_name }
+    ensures through { Through (done_of (length memory.old.vol.now) (script_of trace.now)) result
+        (memory_of memory.new) page.old.bytes.now (on_page page.new) }
 {
-    let mut course = first();
-    let mut recovery = idle();
+    let mut totals = Totals::NONE;
+    let mut recovery = Recovery::Idle;
     let mut rows = blank();
-    let mut reader = Reader { trace, at: 3 };
-    while course.going {
-        let read = next(reader);
-        let i = slot_of(read.item);
-        let done = turn(
-            vol, pers, old, marks, out, course, recovery, rows[i], read.item,
-        );
-        course = done.course;
-        reader = read.reader;
-        if done.turned {
-            rows[i] = done.tx;
-        } else {
-            if done.recovers {
-                recovery = done.recovery;
-                if done.crashed {
-                    rows = crash_txs(rows);
-                }
+    let mut read = next(Reader { trace, at: 3 });
+    while let Some(Ok(record)) = read.item {
+        let i = slot(record.call);
+        let moved = turn(memory, page, totals, recovery, rows[i], record.call);
+        totals = moved.totals;
+        read = next(read.reader);
+        match moved.change {
+            Change::Nothing => {}
+            Change::Record { tx } => rows[i] = tx,
+            Change::Recovery { recovery: next } => recovery = next,
+            Change::Crash => {
+                recovery = Recovery::C1;
+                crash_if(&mut rows, true);
             }
         }
     }
-    all_done(course, recovery, rows)
+    Reached {
+        refusal: refusal_of(read.item),
+        totals,
+        recovery,
+        txs: rows,
+    }
 }
 
-pub(crate) fn run(
-    trace: &[u8],
-    vol: &mut [u32],
-    pers: &mut [u32],
-    old: &mut [u32],
-    held: Held,
-    out: &mut [u8],
-) -> Replayed
-    requires { (store_of vol.old pers.old old.old held (replicate 64 (tx_of 0 Fresh)) ≡ fresh (length vol.old))
-        × (1 ≤ length vol.old) × (length vol.old ≤ 256) × (3 ≤ length trace.now) × (length trace.now ≤ 65536) }
-    ensures { Ends (done_of (length vol.old) (script_of trace.now)) result.ended vol.new pers.new old.new result.txs out.old out.new
-        × (result.changed ≡ true) }
+pub(crate) fn run(trace: &[u8], memory: &mut Memory, page: &mut Page) -> Replayed
+    requires { Ready trace.now (memory_of memory.old) page.old.at }
+    ensures rows { SameRows memory.old memory.new }
+    ensures page { page.new.bytes.ghost_name ≡ page.old.bytes.ghost_name }
+    ensures ends { Runs (done_of (length memory.old.vol.now) (script_of trace.now)) result
+        (memory_of memory.new) page.old.bytes.now page.new.bytes.now }
 {
-    let mut marks = held.marks;
-    let done = go_through(trace, vol, pers, old, &mut marks, out);
-    let course = done.course;
-    let recovery = done.recovery;
-    let txs = done.txs;
-    let totals = course.totals;
-    changed(
-        over(
-            out,
-            course.place,
-            course.refusal,
-            totals,
-            marks,
-            course.glb,
-            recovery,
-        ),
-        txs,
-    )
+    let done = go_through(trace, memory, page);
+    let stopped = stopped_at(done.refusal, done.totals.records);
+    let marks = memory.marks;
+    let held = Held {
+        marks,
+        glb: memory.glb,
+        recovery: done.recovery,
+    };
+    Replayed {
+        ended: ended(page, stopped, done.totals, held),
+        txs: Some(done.txs),
+    }
 }

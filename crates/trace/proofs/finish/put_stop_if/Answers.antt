@@ -1,8 +1,7 @@
--- `trace::finish::put_stop_if` meets its contract: no refusal, no line.
-use borrow.Author.Tests.{eq-eqb}
+-- `trace::finish::put_stop_if` meets its contract: nothing stopped the replay, no line.
 use Rattle.text.specs.Buffer.{puts}
 use Rattle.trace.proofs.finish.put_stop_if.Goals as goal
 
-pub returns-then-refusal-eq0 : goal.returns-then-refusal-eq0
+pub returns-in-None-clause-text : goal.returns-in-None-clause-text
 unfolding puts
-returns-then-refusal-eq0 c = rw (eq-eqb _ _ c.if-refusal-eq0.true)
+returns-in-None-clause-text c = rw c.in-None.is

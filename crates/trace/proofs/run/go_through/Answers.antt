@@ -1,75 +1,81 @@
 -- `trace::run::go_through` meets its contract: before the first turn the store is fresh, a turn's end is the law on what it says to be changed, and after the last
 -- one the replay is through.
-use Rattle.std.proofs.Common.{refl, replicate, ap, sym, ◌∙◌}
-use Rattle.dtml.specs.declared.Recovery.TheVariants.{Idle}
-use Rattle.dtml.specs.declared.Phase.TheVariants.{Fresh}
-use Rattle.dtml.specs.Store.{tx as tx_of}
-use Rattle.day.specs.Replay.{totals}
-use Rattle.day.proofs.Going.{looping-start, few-records}
-use Rattle.trace.specs.declared.run.Course.{Course}
-use Rattle.trace.proofs.Turned.{true-not, here, asks_at, turned-on, crashed-on, recovering-on, still-on, through}
+use mathlib.Core.Path.{◌≡◌, refl, ap, ◌∙◌}
+use Rattle.std.specs.Prelude.{Some, Ok}
+use Rattle.std.proofs.Common.{rules}
+use Rattle.parts.proofs.Lent.{same-start, same-then}
+use Rattle.trace.proofs.Turned.{starts, asks, nothing-on, record-on, recovery-on, crash-on, through}
 use Rattle.trace.proofs.run.go_through.Goals as goal
+use Rattle.trace.proofs.run.go_through.Goals.{in_default, in_default-2}
 
-pub loop-course-init : goal.loop-course-init
-loop-course-init c =
-    let args = c.args in
-    let asks = c.requires in
-    let start =
-    looping-start args.trace.now args.out.now args.vol.now args.pers.now args.old.now (record { marks = args.marks.now; glb = 0; recovery = Idle })
-    (replicate 64 (tx_of 0 Fresh)) (totals 0 0 0 0 0) asks.0 asks.1 asks.2 asks.3 asks.4 refl in
-    record {
-      same = refl;
-      loop = rw (c.first-course.ensures, c.idle-recovery.ensures, c.blank-rows.ensures) start;
-      ended = λ over. true-not (sym (ap (λ (k : Course). k.going) c.first-course.ensures) ∙ over);
-    }
+pub loop-read-init : goal.loop-read-init
+loop-read-init c = (same-start _, refl, starts _ c.next-read.result c.next-read.ensures refl refl c.requires refl c.blank-rows.ensures)
 
-pub turn-done-requires : goal.turn-done-requires
-turn-done-requires c =
-    let kept = c.loop-course.invariant in
-    (few-records kept.loop, asks_at c.loop-course.course kept.loop c.next-read.result.item (here c.loop-course.reader c.next-read.result kept.same c.next-read.ensures))
+pub turn-moved-requires : goal.turn-moved-requires
+turn-moved-requires c = asks c.loop-read.read c.loop-read.invariant.2 c.in-Some-Ok.record (c.in-Some-Ok.is ∙ ap Some (rw c.in-Some-Ok.is at c.in-Some-Ok.field-0-is))
 
-pub returns : goal.returns
-returns c =
-    let ended = c.loop-course.invariant.ended c.loop-course-test.false in
-    let whole = through c.loop-course.course c.loop-course.invariant.loop ended.0 ended.1 in
-    rw c.all_done.ensures whole
+pub loop-read-preserved-in-Nothing : goal.loop-read-preserved-in-Nothing
+loop-read-preserved-in-Nothing c =
+    let kept = c.loop-read.invariant in (
+      same-then kept.0 c.turn-moved.ensures.rows,
+      c.turn-moved.ensures.page ∙ kept.1,
+      (
+          nothing-on c.loop-read.read c.loop-read.invariant.2 c.in-Some-Ok.record (c.in-Some-Ok.is ∙ ap Some (rw c.in-Some-Ok.is at c.in-Some-Ok.field-0-is)) c.slot-i.ensures.0 c.turn-moved.result
+          c.turn-moved.ensures.moves c.turn-moved.ensures.brief c.next-read-in-Some-Ok.result c.next-read-in-Some-Ok.ensures c.in-Nothing.is).0,
+    )
 
-pub loop-course-preserved-then-done : goal.loop-course-preserved-then-done
-loop-course-preserved-then-done c =
-    (turned-on c.loop-course.course c.next-read.result c.turn-done.result c.loop-course.invariant c.loop-course-test.true c.next-read.ensures c.slot_of-i.ensures.0 c.turn-done.ensures
-    c.if-done.true).0
+pub loop-read-smaller-in-Nothing : goal.loop-read-smaller-in-Nothing
+loop-read-smaller-in-Nothing c =
+    (nothing-on c.loop-read.read c.loop-read.invariant.2 c.in-Some-Ok.record (c.in-Some-Ok.is ∙ ap Some (rw c.in-Some-Ok.is at c.in-Some-Ok.field-0-is)) c.slot-i.ensures.0 c.turn-moved.result
+    c.turn-moved.ensures.moves c.turn-moved.ensures.brief c.next-read-in-Some-Ok.result c.next-read-in-Some-Ok.ensures c.in-Nothing.is).1
 
-pub loop-course-smaller-then-done : goal.loop-course-smaller-then-done
-loop-course-smaller-then-done c =
-    (turned-on c.loop-course.course c.next-read.result c.turn-done.result c.loop-course.invariant c.loop-course-test.true c.next-read.ensures c.slot_of-i.ensures.0 c.turn-done.ensures
-    c.if-done.true).1
+pub loop-read-preserved-in-Record : goal.loop-read-preserved-in-Record
+loop-read-preserved-in-Record c =
+    let kept = c.loop-read.invariant in (
+      same-then kept.0 c.turn-moved.ensures.rows,
+      c.turn-moved.ensures.page ∙ kept.1,
+      (
+          record-on c.loop-read.read c.loop-read.invariant.2 c.in-Some-Ok.record (c.in-Some-Ok.is ∙ ap Some (rw c.in-Some-Ok.is at c.in-Some-Ok.field-0-is)) c.slot-i.ensures.0 c.turn-moved.result
+          c.turn-moved.ensures.moves c.turn-moved.ensures.brief c.next-read-in-Some-Ok.result c.next-read-in-Some-Ok.ensures c.in-Record.is).0,
+    )
 
-pub loop-course-preserved-then-done-3 : goal.loop-course-preserved-then-done-3
-loop-course-preserved-then-done-3 c =
-    (crashed-on c.loop-course.course c.next-read.result c.turn-done.result c.loop-course.invariant c.loop-course-test.true c.next-read.ensures c.slot_of-i.ensures.0 c.turn-done.ensures
-    c.if-done.false c.if-done-2.true c.if-done-3.true c.crash_txs-rows.ensures).0
+pub loop-read-smaller-in-Record : goal.loop-read-smaller-in-Record
+loop-read-smaller-in-Record c =
+    (record-on c.loop-read.read c.loop-read.invariant.2 c.in-Some-Ok.record (c.in-Some-Ok.is ∙ ap Some (rw c.in-Some-Ok.is at c.in-Some-Ok.field-0-is)) c.slot-i.ensures.0 c.turn-moved.result
+    c.turn-moved.ensures.moves c.turn-moved.ensures.brief c.next-read-in-Some-Ok.result c.next-read-in-Some-Ok.ensures c.in-Record.is).1
 
-pub loop-course-smaller-then-done-3 : goal.loop-course-smaller-then-done-3
-loop-course-smaller-then-done-3 c =
-    (crashed-on c.loop-course.course c.next-read.result c.turn-done.result c.loop-course.invariant c.loop-course-test.true c.next-read.ensures c.slot_of-i.ensures.0 c.turn-done.ensures
-    c.if-done.false c.if-done-2.true c.if-done-3.true c.crash_txs-rows.ensures).1
+pub loop-read-preserved-in-Recovery : goal.loop-read-preserved-in-Recovery
+loop-read-preserved-in-Recovery c =
+    let kept = c.loop-read.invariant in (
+      same-then kept.0 c.turn-moved.ensures.rows,
+      c.turn-moved.ensures.page ∙ kept.1,
+      (
+          recovery-on c.loop-read.read c.loop-read.invariant.2 c.in-Some-Ok.record (c.in-Some-Ok.is ∙ ap Some (rw c.in-Some-Ok.is at c.in-Some-Ok.field-0-is)) c.slot-i.ensures.0 c.turn-moved.result
+          c.turn-moved.ensures.moves c.turn-moved.ensures.brief c.next-read-in-Some-Ok.result c.next-read-in-Some-Ok.ensures c.in-Recovery.is).0,
+    )
 
-pub loop-course-preserved-else-done-3 : goal.loop-course-preserved-else-done-3
-loop-course-preserved-else-done-3 c =
-    (recovering-on c.loop-course.course c.next-read.result c.turn-done.result c.loop-course.invariant c.loop-course-test.true c.next-read.ensures c.slot_of-i.ensures.0 c.turn-done.ensures
-    c.if-done.false c.if-done-2.true c.if-done-3.false).0
+pub loop-read-smaller-in-Recovery : goal.loop-read-smaller-in-Recovery
+loop-read-smaller-in-Recovery c =
+    (recovery-on c.loop-read.read c.loop-read.invariant.2 c.in-Some-Ok.record (c.in-Some-Ok.is ∙ ap Some (rw c.in-Some-Ok.is at c.in-Some-Ok.field-0-is)) c.slot-i.ensures.0 c.turn-moved.result
+    c.turn-moved.ensures.moves c.turn-moved.ensures.brief c.next-read-in-Some-Ok.result c.next-read-in-Some-Ok.ensures c.in-Recovery.is).1
 
-pub loop-course-smaller-else-done-3 : goal.loop-course-smaller-else-done-3
-loop-course-smaller-else-done-3 c =
-    (recovering-on c.loop-course.course c.next-read.result c.turn-done.result c.loop-course.invariant c.loop-course-test.true c.next-read.ensures c.slot_of-i.ensures.0 c.turn-done.ensures
-    c.if-done.false c.if-done-2.true c.if-done-3.false).1
+pub loop-read-preserved : goal.loop-read-preserved
+loop-read-preserved c =
+    let kept = c.loop-read.invariant in (
+      same-then kept.0 c.turn-moved.ensures.rows,
+      c.turn-moved.ensures.page ∙ kept.1,
+      (
+          crash-on c.loop-read.read c.loop-read.invariant.2 c.in-Some-Ok.record (c.in-Some-Ok.is ∙ ap Some (rw c.in-Some-Ok.is at c.in-Some-Ok.field-0-is)) c.slot-i.ensures.0 c.turn-moved.result
+          c.turn-moved.ensures.moves c.turn-moved.ensures.brief c.next-read-in-Some-Ok.result c.next-read-in-Some-Ok.ensures c.in-Crash.is c.crash_if.ensures).0,
+    )
 
-pub loop-course-preserved : goal.loop-course-preserved
-loop-course-preserved c =
-    (still-on c.loop-course.course c.next-read.result c.turn-done.result c.loop-course.invariant c.loop-course-test.true c.next-read.ensures c.slot_of-i.ensures.0 c.turn-done.ensures
-    c.if-done.false c.if-done-2.false).0
+pub loop-read-smaller : goal.loop-read-smaller
+loop-read-smaller c =
+    (crash-on c.loop-read.read c.loop-read.invariant.2 c.in-Some-Ok.record (c.in-Some-Ok.is ∙ ap Some (rw c.in-Some-Ok.is at c.in-Some-Ok.field-0-is)) c.slot-i.ensures.0 c.turn-moved.result
+    c.turn-moved.ensures.moves c.turn-moved.ensures.brief c.next-read-in-Some-Ok.result c.next-read-in-Some-Ok.ensures c.in-Crash.is c.crash_if.ensures).1
 
-pub loop-course-smaller : goal.loop-course-smaller
-loop-course-smaller c =
-    (still-on c.loop-course.course c.next-read.result c.turn-done.result c.loop-course.invariant c.loop-course-test.true c.next-read.ensures c.slot_of-i.ensures.0 c.turn-done.ensures
-    c.if-done.false c.if-done-2.false).1
+pub returns-clause-through : goal.returns-clause-through
+returns-clause-through c =
+    through c.loop-read.read c.loop-read.invariant.2
+    (λ x is. elim c.match-read.branch [ in_default w ↦ search rules | in_default-2 w ↦ search rules ])
+    c.refusal_of.ensures

@@ -1,10 +1,16 @@
--- The loop's state is what its locals hold, with what the loop knows of them (`Kept`). The measure is the bytes that are left.
-use Rattle.std.proofs.Common.{length}
+-- The loop keeps the rows and the page that it was lent, and what is known of its locals (`Kept`). The measure is the bytes that are left.
+use mathlib.Core.Path.{◌≡◌}
+use Rattle.dtml.specs.Store.{size}
+use Rattle.parts.specs.Lent.{memory_of, SameRows}
+use Rattle.text.specs.Page.{on_page}
 use Rattle.trace.proofs.Turned.{measure, Kept}
 use Rattle.trace.proofs.run.go_through.Given as goal
 
-abbrev pub invariant-loop-course : goal.invariant-loop-course
-invariant-loop-course l = Kept l.trace (length l.initial.vol) l.initial.out l.vol l.pers l.old l.out l.marks l.course l.recovery l.rows l.reader
+abbrev pub invariant-loop-read : goal.invariant-loop-read
+invariant-loop-read l =
+    SameRows l.initial.memory l.memory
+    × (l.page.bytes.ghost_name ≡ l.initial.page.bytes.ghost_name)
+    × Kept l.trace (size (memory_of l.initial.memory)) l.initial.page.bytes.now (memory_of l.memory) (on_page l.page) l.totals l.recovery l.rows l.read
 
-abbrev pub decreases-loop-course : goal.decreases-loop-course
-decreases-loop-course l = measure l.trace l.reader.at l.course.going
+abbrev pub decreases-loop-read : goal.decreases-loop-read
+decreases-loop-read l = measure l.trace l.read.item l.read.reader.at

@@ -1,29 +1,44 @@
--- `trace::run::on_none` meets its contract: what the call leaves is `call_system`'s, counted by its kind and printed by its answer; a crash or a line changes recovery.
+-- `trace::run::on_none` meets its contract: what the call leaves is `call_system`'s, counted and printed by what happened; a crash changes recovery and every record.
+use mathlib.Core.Path.{refl, ap, ◌∙◌}
+use Rattle.std.specs.Prelude.{Ok}
 use native.Mathlib.Omega.{arith}
-use Rattle.dtml.specs.Store.{memory}
-use Rattle.trace.proofs.Turned.{few-number, refused-number, none-refused, none-flushed, none-crashed, lines-low, none-lines, still-moves, recovering-moves}
+use Rattle.parts.specs.Lent.{memory_of}
+use Rattle.text.specs.Page.{on_page}
+use Rattle.trace.proofs.Turned.{none-refused, none-flushed, none-crashed, lines-low, none-lines}
 use Rattle.trace.proofs.run.on_none.Goals as goal
 
-pub put_refusal-put-requires : goal.put_refusal-put-requires
-put_refusal-put-requires c =
-    (few-number c.added-totals.ensures c.requires.0, refused-number (memory c.args.vol.now c.args.pers.now c.args.old.now c.args.marks.now c.args.course.glb) c.args.recovery c.args.tx c.args.course c.args.out.now (memory c.call_system-event.new.vol c.call_system-event.new.pers c.args.old.now c.call_system-event.new.marks c.call_system-event.new.glb) c.args.sys c.call_system-event.ensures c.in-Refused.is)
+pub added-totals-requires : goal.added-totals-requires
+added-totals-requires c =
+    (c.requires.0, omega arith, lines-low (memory_of c.args.memory.now) c.args.recovery c.args.tx c.args.totals (on_page c.args.page.now) (memory_of c.call_system.new.memory) c.args.sys c.call_system.ensures.left (c.in-Ok-RecoveryLines.is ∙ ap Ok c.in-Ok-RecoveryLines.field-0-is) c.requires.1, omega arith)
 
-pub added-totals-requires-in-RecoveryLines : goal.added-totals-requires-in-RecoveryLines
-added-totals-requires-in-RecoveryLines c =
-    (c.requires.0, omega arith, lines-low (memory c.args.vol.now c.args.pers.now c.args.old.now c.args.marks.now c.args.course.glb) c.args.recovery c.args.tx c.args.course c.args.out.now (memory c.call_system-event.new.vol c.call_system-event.new.pers c.args.old.now c.call_system-event.new.marks c.call_system-event.new.glb) c.args.sys c.call_system-event.ensures c.in-RecoveryLines.is c.requires.1, omega arith)
+pub returns-in-Ok-Flushed-clause-moves : goal.returns-in-Ok-Flushed-clause-moves
+returns-in-Ok-Flushed-clause-moves c =
+    (none-flushed (memory_of c.args.memory.now) c.args.recovery c.args.tx c.args.totals (on_page c.args.page.now) (memory_of c.call_system.new.memory) c.args.sys c.call_system.ensures.left (c.in-Ok-Flushed.is ∙ ap Ok c.in-Ok-Flushed.field-0-is) c.added.ensures refl).0
 
-pub returns-in-Refused : goal.returns-in-Refused
-returns-in-Refused c =
-    still-moves c.going_on.ensures c.still.ensures (none-refused (memory c.args.vol.now c.args.pers.now c.args.old.now c.args.marks.now c.args.course.glb) c.args.recovery c.args.tx c.args.course c.args.out.now (memory c.call_system-event.new.vol c.call_system-event.new.pers c.args.old.now c.call_system-event.new.marks c.call_system-event.new.glb) c.args.sys c.call_system-event.ensures c.in-Refused.is c.added-totals.ensures c.put_refusal-put.ensures.0 c.put_refusal-put.ensures.1)
+pub returns-in-Ok-Flushed-clause-brief : goal.returns-in-Ok-Flushed-clause-brief
+returns-in-Ok-Flushed-clause-brief c =
+    (none-flushed (memory_of c.args.memory.now) c.args.recovery c.args.tx c.args.totals (on_page c.args.page.now) (memory_of c.call_system.new.memory) c.args.sys c.call_system.ensures.left (c.in-Ok-Flushed.is ∙ ap Ok c.in-Ok-Flushed.field-0-is) c.added.ensures refl).1
 
-pub returns-in-Flushed : goal.returns-in-Flushed
-returns-in-Flushed c =
-    still-moves c.going_on-in-Flushed.ensures c.still-in-Flushed.ensures (none-flushed (memory c.args.vol.now c.args.pers.now c.args.old.now c.args.marks.now c.args.course.glb) c.args.recovery c.args.tx c.args.course c.args.out.now (memory c.call_system-event.new.vol c.call_system-event.new.pers c.args.old.now c.call_system-event.new.marks c.call_system-event.new.glb) c.args.sys c.call_system-event.ensures c.in-Flushed.is c.added.ensures)
+pub returns-in-Ok-Crashed-clause-moves : goal.returns-in-Ok-Crashed-clause-moves
+returns-in-Ok-Crashed-clause-moves c =
+    (none-crashed (memory_of c.args.memory.now) c.args.recovery c.args.tx c.args.totals (on_page c.args.page.now) (memory_of c.call_system.new.memory) c.args.sys c.call_system.ensures.left c.cut_by_crash.result (c.in-Ok-Crashed.is ∙ ap Ok c.in-Ok-Crashed.field-0-is) c.cut_by_crash.ensures.0 c.added-in-Ok-Crashed.ensures refl).0
 
-pub returns-in-Crashed : goal.returns-in-Crashed
-returns-in-Crashed c =
-    recovering-moves c.going_on-in-Crashed.ensures c.recovering.ensures (none-crashed (memory c.args.vol.now c.args.pers.now c.args.old.now c.args.marks.now c.args.course.glb) c.args.recovery c.args.tx c.args.course c.args.out.now (memory c.call_system-event.new.vol c.call_system-event.new.pers c.args.old.now c.call_system-event.new.marks c.call_system-event.new.glb) c.args.sys c.call_system-event.ensures c.cut_by_crash.result c.in-Crashed.is c.cut_by_crash.ensures.0 c.added-totals-in-Crashed.ensures)
+pub returns-in-Ok-Crashed-clause-brief : goal.returns-in-Ok-Crashed-clause-brief
+returns-in-Ok-Crashed-clause-brief c =
+    (none-crashed (memory_of c.args.memory.now) c.args.recovery c.args.tx c.args.totals (on_page c.args.page.now) (memory_of c.call_system.new.memory) c.args.sys c.call_system.ensures.left c.cut_by_crash.result (c.in-Ok-Crashed.is ∙ ap Ok c.in-Ok-Crashed.field-0-is) c.cut_by_crash.ensures.0 c.added-in-Ok-Crashed.ensures refl).1
 
-pub returns-in-RecoveryLines : goal.returns-in-RecoveryLines
-returns-in-RecoveryLines c =
-    recovering-moves c.going_on-in-RecoveryLines.ensures c.recovering-in-RecoveryLines.ensures (none-lines (memory c.args.vol.now c.args.pers.now c.args.old.now c.args.marks.now c.args.course.glb) c.args.recovery c.args.tx c.args.course c.args.out.now (memory c.call_system-event.new.vol c.call_system-event.new.pers c.args.old.now c.call_system-event.new.marks c.call_system-event.new.glb) c.args.sys c.call_system-event.ensures c.in-RecoveryLines.is c.added-totals-in-RecoveryLines.ensures c.put_answer_if-put.ensures.0 c.put_answer_if-put.ensures.1)
+pub returns-in-Ok-RecoveryLines-clause-moves : goal.returns-in-Ok-RecoveryLines-clause-moves
+returns-in-Ok-RecoveryLines-clause-moves c =
+    (none-lines (memory_of c.args.memory.now) c.args.recovery c.args.tx c.args.totals (on_page c.args.page.now) (memory_of c.call_system.new.memory) c.args.sys c.call_system.ensures.left (c.in-Ok-RecoveryLines.is ∙ ap Ok c.in-Ok-RecoveryLines.field-0-is) c.added-totals.ensures c.put_answer_if.ensures.text c.put_answer_if.ensures.brief).0
+
+pub returns-in-Ok-RecoveryLines-clause-brief : goal.returns-in-Ok-RecoveryLines-clause-brief
+returns-in-Ok-RecoveryLines-clause-brief c =
+    (none-lines (memory_of c.args.memory.now) c.args.recovery c.args.tx c.args.totals (on_page c.args.page.now) (memory_of c.call_system.new.memory) c.args.sys c.call_system.ensures.left (c.in-Ok-RecoveryLines.is ∙ ap Ok c.in-Ok-RecoveryLines.field-0-is) c.added-totals.ensures c.put_answer_if.ensures.text c.put_answer_if.ensures.brief).1
+
+pub returns-in-Err-clause-moves : goal.returns-in-Err-clause-moves
+returns-in-Err-clause-moves c =
+    (none-refused (memory_of c.args.memory.now) c.args.recovery c.args.tx c.args.totals (on_page c.args.page.now) (memory_of c.call_system.new.memory) c.args.sys c.call_system.ensures.left c.in-Err.is c.added-totals-in-Err.ensures c.put_refusal.ensures.text c.put_refusal.ensures.brief).0
+
+pub returns-in-Err-clause-brief : goal.returns-in-Err-clause-brief
+returns-in-Err-clause-brief c =
+    (none-refused (memory_of c.args.memory.now) c.args.recovery c.args.tx c.args.totals (on_page c.args.page.now) (memory_of c.call_system.new.memory) c.args.sys c.call_system.ensures.left c.in-Err.is c.added-totals-in-Err.ensures c.put_refusal.ensures.text c.put_refusal.ensures.brief).1

@@ -1,12 +1,12 @@
 -- `trace::run::put_answer_if` meets its contract: an answer 0 has no line; any other has one, of thirty bytes at the most.
-use Rattle.day.proofs.Answers.{no_line, one_line}
+use Rattle.std.proofs.Common.{sym, ◌∙◌, Ok}
+use Rattle.text.specs.Buffer.{puts}
+use Rattle.day.proofs.Answers.{no_line, brief-line}
 use Rattle.trace.proofs.run.put_answer_if.Goals as goal
 
-pub returns-then-n-eq0 : goal.returns-then-n-eq0
-returns-then-n-eq0 c =
-    no_line _ _ c.args.record_number c.args.answer _ c.number-n.ensures c.if-n-eq0.true
+pub returns-then-n-ne0-clause-brief : goal.returns-then-n-ne0-clause-brief
+returns-then-n-ne0-clause-brief c = brief-line _ (Ok c.args.answer) (rw (← c.value.ensures) c.value.type_inv) c.requires
 
-pub returns : goal.returns
-returns c =
-    one_line _ _ c.args.record_number c.args.answer _ c.number-n.ensures c.if-n-eq0.false _ c.value.ensures
-    c.value.type_inv c.requires _ _ c.put_answer.ensures
+pub returns-else-n-ne0-clause-text : goal.returns-else-n-ne0-clause-text
+unfolding puts
+returns-else-n-ne0-clause-text c = rw (no_line c.args.record_number (Ok c.args.answer) (sym c.number-n.ensures ∙ c.if-n-ne0.false))
