@@ -4,49 +4,50 @@
 #![tactic(auto)]
 
 ghost use Rattle.std.specs.Prelude.{◌≡◌, ℕ, ◌≤◌, ◌<◌, ◌^◌, length, get_or};
-ghost use Rattle.bits.specs.Marks.{is_marked, mark_of, unmark_of, clear_of, count_of, lowest_of, stands_from};
+ghost use Rattle.bits.specs.Marks.{put, is_marked, mark_of, unmark_of, clear_of, count_of, lowest_of, stands_from};
 
 pub type Marks = [u64; 4];
 
-// What the type of marks tells, four numbers of 64 bits, for those that have a reference to them. It does nothing, so no copy is made for it.
-fn four(m: Marks)
-    ensures { (length m ≡ 4) × ((i : ℕ) → get_or m i 0 < 2 ^ 64) }
-{}
-
+#[tactic(auto, using(crate::proofs::Row::marking))]
 pub fn mark(m: &mut Marks, w: u64)
     ensures { m.new ≡ mark_of m.old w }
 {
-    four(*m);
     if w < 256 {
         let i = (w / 64) as usize;
-        m[i] = m[i] | (1u64 << (w % 64));
+        m[i] |= 1u64 << (w % 64);
     }
 }
 
+// A number of the row with no mark at that place.
+#[tactic(auto, using(crate::proofs::Row::marking))]
+fn without(number: u64, place: u64) -> u64
+    requires { place < 64 }
+    ensures { result ≡ put number place 0 }
+{
+    number & !(1u64 << place)
+}
+
+#[tactic(auto, using(crate::proofs::Row::marking))]
 pub fn unmark(m: &mut Marks, w: u64)
     ensures { m.new ≡ unmark_of m.old w }
 {
-    four(*m);
     if w < 256 {
         let i = (w / 64) as usize;
-        m[i] = m[i] & !(1u64 << (w % 64));
+        m[i] = without(m[i], w % 64);
     }
 }
 
+#[tactic(auto, using(crate::proofs::Row::clear_four))]
 pub fn clear(m: &mut Marks)
     ensures { m.new ≡ clear_of m.old }
 {
-    four(*m);
-    m[0] = 0;
-    m[1] = 0;
-    m[2] = 0;
-    m[3] = 0;
+    *m = [0; 4];
 }
 
+#[tactic(auto, using(crate::proofs::Row::reading))]
 pub fn is_marked(m: &Marks, w: u64) -> bool
     ensures { result ≡ is_marked m.now w }
 {
-    four(*m);
     if 256 <= w {
         return false;
     }
@@ -55,40 +56,36 @@ pub fn is_marked(m: &Marks, w: u64) -> bool
 }
 
 // How many words are marked, 256 at the most.
+#[tactic(auto, using(crate::proofs::Row::counting))]
 pub fn count(m: &Marks) -> u64
     ensures { (result ≡ count_of m.now) × (result ≤ 256) }
 {
-    four(*m);
-    let a = u64::count_ones(m[0]) as u64;
-    let b = u64::count_ones(m[1]) as u64;
-    let c = u64::count_ones(m[2]) as u64;
-    let d = u64::count_ones(m[3]) as u64;
-    a + b + c + d
+    let mut marked: u64 = 0;
+    for number in m {
+        marked += u64::from(number.count_ones());
+    }
+    marked
 }
 
 // The lowest marked word; 256 where no word is marked.
+#[tactic(auto, using(crate::proofs::Row::seeking))]
 pub fn lowest(m: &Marks) -> u64
     ensures { result ≡ lowest_of m.now }
 {
-    four(*m);
-    let mut base: u64 = 0;
-    let mut i: usize = 0;
-    while i < 4 {
-        let zeros = u64::trailing_zeros(m[i]) as u64;
+    for (i, number) in m.iter().enumerate() {
+        let zeros = u64::from(number.trailing_zeros());
         if zeros < 64 {
-            return base + zeros;
+            return 64 * i as u64 + zeros;
         }
-        base += 64;
-        i += 1;
     }
-    base
+    256
 }
 
 // Whether some word at n or above is marked. No number is looked at where n is past the row, and only the last where the words from n on are all in it.
+#[tactic(auto, using(crate::proofs::Row::standing))]
 pub fn stands_from(m: &Marks, n: u64) -> bool
     ensures { result ≡ stands_from m.now n }
 {
-    four(*m);
     if 256 <= n {
         return false;
     }
@@ -96,17 +93,11 @@ pub fn stands_from(m: &Marks, n: u64) -> bool
         return m[3] >> (n - 192) != 0;
     }
     let mut from = n;
-    let mut i: usize = 0;
-    while i < 4 {
-        if from < 64 {
-            if m[i] >> from != 0 {
-                return true;
-            }
-            from = 0;
-        } else {
-            from -= 64;
+    for number in m {
+        if from < 64 && *number >> from != 0 {
+            return true;
         }
-        i += 1;
+        from = from.saturating_sub(64);
     }
     false
 }

@@ -1,16 +1,16 @@
--- The last arm of a match on a number: a number that is none of 0 to k - 1 is k or more.
-use Prim.Native.Nat.{ℕ, zero, suc, ◌≤◌}
-use native.Mathlib.Omega.{arith}
+-- A number past the list of phases, or past that of recovery's lines, is read as the first of them.
+use Prim.Native.Nat.{◌≤◌}
 use mathlib.Core.Path.{◌≡◌}
+use lib.ListN.{get_or-eq_default}
+use Rattle.dtml.specs.declared.Phase.TheVariants.{Fresh}
+use Rattle.dtml.specs.declared.Recovery.TheVariants.{Idle}
+use Rattle.spelling.specs.declared.Spelt.{Spelt}
+use Rattle.spelling.specs.Spelling.{phases, read_phase, recoveries, read_recovery}
 
--- what the arms before it leave, in the form in which the last arm is given it
-abbrev Passed : ℕ → ℕ → Type 0
-Passed zero n = Unit
-Passed (suc k) n = Passed k n × (n ≡ k → ⊥)
+pub no_phase : (s : Spelt) → 18 ≤ s.number → read_phase s ≡ Fresh
+unfolding read_phase
+no_phase s h = get_or-eq_default (phases s.word s.value) Fresh {n = s.number} h
 
-pub passed : (k n : ℕ) → Passed k n → k ≤ n
-passed zero n p = omega arith
-passed (suc k) n p =
-    let before : k ≤ n = passed k n p.0 in
-    let not-here : n ≡ k → ⊥ = p.1 in
-    omega arith
+pub no_line : (s : Spelt) → 7 ≤ s.number → read_recovery s ≡ Idle
+unfolding read_recovery
+no_line s h = get_or-eq_default (recoveries s.word s.value) Idle {n = s.number} h

@@ -8,7 +8,7 @@ ghost use Rattle.spelling.specs.Spelling.{spell_phase, read_phase, spell_recover
 use dtml::{Phase, Recovery};
 
 // What a phase or recovery is spelled by: its number, its word and its value, 0 where it has none.
-#[derive(Clone, Copy)]
+#[derive(Clone, Copy, PartialEq, Eq)]
 pub struct Spelt {
     pub number: u32,
     pub word: u32,
@@ -51,13 +51,15 @@ pub fn spell_phase(p: Phase) -> Spelt
 }
 
 // The phase of that number, with the word and the value that it carries; Fresh where no phase has it.
-#[tactic(auto, unfolding(crate::specs::Spelling::read_phase))]
+#[tactic(auto, using(crate::proofs::Rest::no_phase), unfolding(crate::specs::Spelling::read_phase))]
 pub fn read_phase(s: Spelt) -> Phase
     ensures { result ≡ read_phase s }
 {
-    let number = s.number;
-    let word = s.word;
-    let value = s.value;
+    let Spelt {
+        number,
+        word,
+        value,
+    } = s;
     match number {
         0 => Phase::Fresh,
         1 => Phase::Ready,
@@ -96,13 +98,15 @@ pub fn spell_recovery(recovery: Recovery) -> Spelt
 }
 
 // Recovery at that line, with the word and the value that it has chosen; idle where there is no such line.
-#[tactic(auto, unfolding(crate::specs::Spelling::read_recovery))]
+#[tactic(auto, using(crate::proofs::Rest::no_line), unfolding(crate::specs::Spelling::read_recovery))]
 pub fn read_recovery(s: Spelt) -> Recovery
     ensures { result ≡ read_recovery s }
 {
-    let number = s.number;
-    let word = s.word;
-    let value = s.value;
+    let Spelt {
+        number,
+        word,
+        value,
+    } = s;
     match number {
         0 => Recovery::Idle,
         1 => Recovery::C1,
@@ -115,14 +119,9 @@ pub fn read_recovery(s: Spelt) -> Recovery
     }
 }
 
+#[tactic(auto, unfolding(crate::specs::Spelling::same_spelling))]
 pub fn same_spelling(a: Spelt, b: Spelt) -> bool
     ensures { result ≡ same_spelling a b }
 {
-    if a.number != b.number {
-        return false;
-    }
-    if a.word != b.word {
-        return false;
-    }
-    a.value == b.value
+    a == b
 }

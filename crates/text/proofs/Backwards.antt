@@ -1,12 +1,14 @@
 -- What the fast way of an answer's line rests on: how many digits a number has, what its digits come to where the last is written first, and where a field ends.
 -- Backwards, the last i digits of n are those of n / 10, one fewer, and then n % 10: with as many as n has they are its decimal text.
-use Prim.Native.Nat.{ℕ, zero, suc, ◌+◌, ◌/◌, ◌%◌, ◌^◌, ◌≤◌, ◌<◌}
+use Prim.Native.Nat.{ℕ, zero, suc, ◌+◌, ◌*◌, ◌/◌, ◌%◌, ◌^◌, ◌≤◌, ◌<◌}
 use mathlib.Core.Path.{◌≡◌, refl, sym, ap, ◌∙◌}
 use mathlib.Core.Logic.{⊎_elim}
 use mathlib.Core.List.{List, [], ◌∷◌, ◌++◌}
 use native.Mathlib.Nat.{pow-suc, mod-eq_of_lt}
 use native.Mathlib.Numerals.{add-one}
 use native.Mathlib.Omega.{arith}
+use Rattle.std.specs.Option.{IfNone, IfSome, unwrap_or}
+use Rattle.std.proofs.Common.{Option, None, Some}
 use lib.ListN.{length, set, length-append}
 use lib.Seq.{sets, set_comm}
 use Rattle.text.specs.Buffer.{Buffer, buffer, puts}
@@ -15,11 +17,16 @@ use Rattle.text.proofs.Laws.{one-or-more, one-digit, more-digits, decimal-one, d
 
 -- ---- how many digits
 
-pub decimal-width : (k n : ℕ) → 10 ^ k ≤ n → n < 10 ^ suc k → length (decimal n) ≡ suc k
-decimal-width zero n l h = one-digit n h
+-- the power of ten that is the last below a number says how many
+decimal-width : (k n : ℕ) → 10 ^ k ≤ n → n < 10 * 10 ^ k → k + 1 ≡ length (decimal n)
+decimal-width zero n l h = omega (arith, one-digit n h)
 decimal-width (suc k) n l h =
     let ten : 10 ≤ n = omega (arith, pow-suc 10 k) in
-    omega (arith, more-digits n ten, decimal-width k (n / 10) (omega (arith, pow-suc 10 k)) (omega (arith, pow-suc 10 (suc k))))
+    omega (arith, more-digits n ten, decimal-width k (n / 10) (omega (arith, pow-suc 10 k)) (omega (arith, pow-suc 10 k)))
+
+pub width-of : (n : ℕ) (power : Option ℕ) → IfNone power (n ≡ 0) → IfSome power (λ k. 10 ^ k ≤ n) → IfSome power (λ k. n < 10 * 10 ^ k) → unwrap_or power 0 + 1 ≡ length (decimal n)
+width-of n None zero-of l h = omega (arith, one-digit n (omega arith))
+width-of n (Some k) z l h = decimal-width k n l h
 
 -- ---- the last digits
 

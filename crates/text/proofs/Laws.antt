@@ -10,7 +10,8 @@ use native.Mathlib.Numerals.{add-one}
 use native.Mathlib.Omega.{arith}
 use borrow.Author.Tests.{lt-ltb, le-ltb, ltb-true, ltb-false}
 use lib.Dec.{ltb}
-use lib.ListN.{length, drop, take, set, length-append, length-set}
+use lib.ListN.{length, drop, take, set, get_or, length-append, length-set}
+use Rattle.std.proofs.lemmas.List.{take_more}
 use lib.Seq.{sets, sets-eq}
 use Rattle.bits.specs.Marks.{pick}
 use Rattle.text.specs.Buffer.{Buffer, buffer, put, puts}
@@ -21,10 +22,6 @@ use Rattle.text.specs.Text.{digits, decimal, value_from, value_of, line_of, answ
 pub put-fits : (bytes : List ℕ) (at b : ℕ) → at < length bytes → put (buffer bytes at) b ≡ buffer (set bytes at b) (at + 1)
 unfolding put
 put-fits bytes at b h = rw (lt-ltb at (length bytes) h)
-
-pub put_full : (bytes : List ℕ) (at b : ℕ) → length bytes ≤ at → put (buffer bytes at) b ≡ buffer bytes at
-unfolding put
-put_full bytes at b h = rw (le-ltb at (length bytes) h)
 
 put-length : (o : Buffer) (b : ℕ) → length (put o b).bytes ≡ length o.bytes
 unfolding put
@@ -43,6 +40,11 @@ pub puts-append : (o : Buffer) (s t : List ℕ) → puts o (s ++ t) ≡ puts (pu
 unfolding puts
 puts-append o [] t = refl
 puts-append o (b ∷ s) t = puts-append (put o b) s t
+
+-- one byte more of a text
+pub puts_take : (o : Buffer) (t : List ℕ) (i : ℕ) → i < length t → puts o (take (i + 1) t) ≡ put (puts o (take i t)) (get_or t i 0)
+unfolding puts
+puts_take o t i h = ap (puts o) (take_more t i 0 h) ∙ puts-append o (take i t) (get_or t i 0 ∷ [])
 
 pub puts-sets : (bytes : List ℕ) (at : ℕ) (t : List ℕ) → at + length t ≤ length bytes → puts (buffer bytes at) t ≡ buffer (sets bytes at t) (at + length t)
 unfolding puts
@@ -64,22 +66,14 @@ puts-fits bytes t h =
     let all : 0 + length t ≡ length t = omega arith in
     rw all at (puts-at bytes 0 t (omega arith))
 
--- ---- text made of pieces: a byte or a field, and then what follows
+-- ---- text made of two pieces, and a piece and a byte
 
 pub puts_then : (o p q : Buffer) (s t : List ℕ) → p ≡ puts o s → q ≡ puts p t → q ≡ puts o (s ++ t)
 puts_then o p q s t e f = f ∙ ap (λ (x : Buffer). puts x t) e ∙ sym (puts-append o s t)
 
-pub byte-then : (o p q : Buffer) (b : ℕ) (t : List ℕ) → p ≡ put o b → q ≡ puts p t → q ≡ puts o (b ∷ t)
-unfolding puts
-byte-then o p q b t e f = f ∙ ap (λ (x : Buffer). puts x t) e
-
 pub then-byte : (o p q : Buffer) (s : List ℕ) (b : ℕ) → p ≡ puts o s → q ≡ put p b → q ≡ puts o (s ++ (b ∷ []))
 unfolding puts
 then-byte o p q s b e f = f ∙ ap (λ (x : Buffer). put x b) e ∙ sym (puts-append o s (b ∷ []))
-
-pub field-then : (o p q : Buffer) (n b : ℕ) (t : List ℕ) → p ≡ puts o (decimal n ++ (b ∷ [])) → q ≡ puts p t → q ≡ puts o (decimal n ++ (b ∷ t))
-field-then o p q n b t e f =
-    f ∙ ap (λ (x : Buffer). puts x t) e ∙ sym (puts-append o (decimal n ++ (b ∷ [])) t) ∙ ap (puts o) (append_assoc (decimal n) (b ∷ []) t)
 
 -- ---- digits
 
@@ -134,13 +128,8 @@ pub decimal-more : (n : ℕ) → 10 ≤ n → decimal n ≡ decimal (n / 10) ++ 
 unfolding decimal digits
 decimal-more n h = rw (le-ltb n 10 h, digits-enough n (n / 10) (omega arith))
 
--- put: the one digit; or the digits of n / 10, and then the last
-pub puts_one : (o p : Buffer) (n : ℕ) → n < 10 → p ≡ put o (48 + n) → p ≡ puts o (decimal n)
-unfolding puts
-puts_one o p n h e = e ∙ ap (puts o) (sym (decimal-one n h))
-
-pub puts-more : (o p q : Buffer) (n : ℕ) → 10 ≤ n → p ≡ puts o (decimal (n / 10)) → q ≡ put p (48 + n % 10) → q ≡ puts o (decimal n)
-puts-more o p q n h e f = then-byte o p q (decimal (n / 10)) (48 + n % 10) e f ∙ ap (puts o) (sym (decimal-more n h))
+-- what a tactic needs to put text piece by piece
+pub ruleset putting = (puts-append, puts_take, decimal-one, decimal-more)
 
 -- ---- how long text can be
 

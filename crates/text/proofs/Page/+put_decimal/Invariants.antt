@@ -1,5 +1,5 @@
 -- `put_decimal` calls itself on n / 10, so n is the measure.
-use Rattle.text.proofs.+put_decimal.Given as goal
+use Rattle.text.proofs.Page.+put_decimal.Given as goal
 
 abbrev pub decreases-put_decimal : goal.decreases-put_decimal
 decreases-put_decimal l = l.n
