@@ -20,11 +20,9 @@ use Rattle.dtml.proofs.Fit.{last, none}
 use Rattle.machine.specs.declared.Held.{Held}
 use Rattle.machine.specs.Given.{store_of}
 use Rattle.machine.specs.Working.{fresh_held, Renewed, renewed, renewed_of}
-use Rattle.reader.specs.declared.TraceRefusal.{TraceRefusal}
 use Rattle.reader.specs.Said.{header_of}
 use Rattle.reader.specs.Trace.{words_of, script_of}
 use Rattle.reader.proofs.Scripts.{passed, refused, ok-not-err, err-is, ok-is, header-sound, header-taken, header_refused, refusal-small}
-use Rattle.records.specs.Row.{stored_if}
 use Rattle.text.specs.Buffer.{buffer, puts}
 use Rattle.day.specs.declared.Totals.{Totals}
 use Rattle.day.specs.declared.ReplayRefusal.{ReplayRefusal}

@@ -7,7 +7,7 @@ use Rattle.reader.specs.declared.Record.{Record}
 use Rattle.reader.specs.declared.place.Reader.{Reader}
 use Rattle.reader.specs.Trace.{Item, end, stops, does, header_checks, words_of, found}
 
--- Document 01, "Numbers that come back": the trace refusals
+-- Document 01, "The trace": the numbers of its refusals
 abbrev pub number_of : TraceRefusal → ℕ
 number_of UnknownKind = 17
 number_of WrongLength = 18
