@@ -11,9 +11,8 @@ use lib.Dec.{eqb, leb}
 use Rattle.bits.specs.Marks.{pick, count_of}
 use Rattle.bits.proofs.Laws.{laws}
 use Rattle.dtml.specs.declared.Recovery.{Recovery}
-use Rattle.dtml.specs.declared.Tx.{Tx}
 use Rattle.dtml.specs.Table.{Reply}
-use Rattle.dtml.specs.Store.{Store, memory, store, fresh, record_at}
+use Rattle.dtml.specs.Store.{Store, fresh, record_at}
 use Rattle.dtml.specs.declared.Sys.TheVariants.{Flush as flush, Crash as crash, Recover as recover, RecoverUpTo as recover_up_to}
 use Rattle.dtml.specs.declared.Call.{Call}
 use Rattle.dtml.specs.declared.Call.TheVariants.{On as on, Of as sys}
@@ -28,8 +27,6 @@ use Rattle.dtml.proofs.Worlds.{InvW, tell-inv, dawn-inv}
 use Rattle.dtml.proofs.Low.{LowW, tell-low, dawn-low}
 use Rattle.dtml.proofs.Fitness.{never-unfit}
 use Rattle.dtml.proofs.Counts.{tell-adds}
-use Rattle.machine.specs.declared.Held.{Held}
-use Rattle.machine.specs.Given.{store_of}
 use Rattle.reader.specs.Trace.{kinds, does, found, Script, script, script_of}
 use Rattle.reader.proofs.Scripts.{AllAsk, script_from, script-more, script-does, found-asks, found-bytes}
 use Rattle.text.specs.Buffer.{Buffer, buffer, puts}

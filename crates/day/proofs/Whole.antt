@@ -2,7 +2,7 @@
 -- Of the row of records only the length counts: it is kept as it is, or changed whole.
 use Prim.Native.Nat.{ℕ, ◌≤◌, ◌<◌}
 use native.Mathlib.Omega.{arith}
-use borrow.Author.Tests.{eq-eqb, ne_eqb, le-ltb, eqb-true, not-false}
+use borrow.Author.Tests.{eq-eqb, eqb-true, not-false}
 use mathlib.Core.Path.{◌≡◌, refl, sym, ap, subst, ◌∙◌}
 use mathlib.Core.Bool.{Bool, true, false, not}
 use mathlib.Core.List.{List, [], ◌∷◌}
@@ -10,16 +10,14 @@ use lib.ListN.{length, replicate, length-replicate}
 use lib.Dec.{eqb}
 use Rattle.std.specs.Prelude.{Result, Ok, Err, Some, None}
 use Rattle.bits.specs.Marks.{pick}
-use Rattle.dtml.specs.declared.Refusal.{Refusal}
 use Rattle.dtml.specs.declared.Phase.TheVariants.{Fresh}
 use Rattle.dtml.specs.declared.Tx.{Tx}
 use Rattle.dtml.specs.Store.{Store, fresh, tx}
 use Rattle.dtml.specs.First.{any_of}
-use Rattle.dtml.specs.Checks.{unfit_rows}
 use Rattle.dtml.proofs.Fit.{last, none}
 use Rattle.machine.specs.declared.Held.{Held}
 use Rattle.machine.specs.Given.{store_of}
-use Rattle.machine.specs.Working.{fresh_held, Renewed, renewed, renewed_of}
+use Rattle.machine.specs.Working.{fresh_held}
 use Rattle.reader.specs.Said.{header_of}
 use Rattle.reader.specs.Trace.{words_of, script_of}
 use Rattle.reader.proofs.Scripts.{passed, refused, ok-not-err, err-is, ok-is, header-sound, header-taken, header_refused, refusal-small}
@@ -145,23 +143,14 @@ module _ (bs vol pers old out : List ℕ) (held : Held) (n : ℕ) (got : Result 
     sound : (words ≡ words_of bs) × (0 < words_of bs) × (words_of bs ≤ 256) × (3 ≤ length bs) × (length bs ≤ 65536)
     sound = header-sound bs words fits.0
 
-    made : renewed vol pers old n ≡ renewed_of (Ok tt) (replicate (length vol) 0) (replicate (length vol) 0) (replicate (length vol) 0)
-    unfolding renewed unfit_rows
-    made =
-        let k = sound in
-        rw (fits.1.0 ∙ sound.0, fits.1.1 ∙ sound.0, fits.1.2 ∙ sound.0, fits.1.3, eq-eqb (words_of bs) (words_of bs) refl, ne_eqb (words_of bs) 0 (omega arith), le-ltb 256 (words_of bs) k.2)
-
-    -- the store is fresh as the first record finds it
-    module _ (vol' pers' old' : List ℕ) (x : Result (Unit {0}) Refusal) (e : renewed_of x vol' pers' old' ≡ renewed vol pers old n) where
-      pub renews : x ≡ Ok tt
-      renews = ap (λ (y : Renewed). y.made) (e ∙ made)
-
+    -- the store, its rows zeroed, is fresh as the first record finds it
+    module _ {vol' pers' old' : List ℕ} (a : vol' ≡ replicate (length vol) 0) (b : pers' ≡ replicate (length pers) 0) (d : old' ≡ replicate (length old) 0) where
       is-fresh : store_of vol' pers' old' fresh_held (replicate 64 (tx 0 Fresh)) ≡ fresh (length vol)
       unfolding fresh
-      is-fresh = ap (λ (y : Renewed). store_of y.vol y.pers y.old fresh_held (replicate 64 (tx 0 Fresh))) (e ∙ made)
+      is-fresh = rw (a, b, d, fits.1.1 ∙ sym fits.1.0, fits.1.2 ∙ sym fits.1.0)
 
       pub fresh-long : length vol' ≡ length vol
-      fresh-long = ap (λ (y : Renewed). length y.vol) (e ∙ made) ∙ length-replicate (length vol) 0
+      fresh-long = ap length a ∙ length-replicate (length vol) 0
 
       pub fresh-rows : (store_of vol' pers' old' fresh_held (replicate 64 (tx 0 Fresh)) ≡ fresh (length vol'))
           × (1 ≤ length vol') × (length vol' ≤ 256) × (3 ≤ length bs) × (length bs ≤ 65536)

@@ -4,7 +4,7 @@ use native.Mathlib.Nat.{add-zero}
 use native.Mathlib.Omega.{arith}
 use mathlib.Core.Path.{◌≡◌, refl, sym, ap, subst, ◌∙◌}
 use mathlib.Core.Bool.{true, false}
-use mathlib.Core.List.{List, [], ◌∷◌}
+use mathlib.Core.List.{List, []}
 use lib.ListN.{length, set, drop, replicate}
 use lib.Dec.{eqb}
 use lib.Seq.{set-get_or}
@@ -21,7 +21,7 @@ use Rattle.dtml.specs.declared.Recovery.TheVariants.{Idle, C1}
 use Rattle.dtml.specs.declared.Sys.{Sys}
 use Rattle.dtml.specs.declared.Tx.{Tx}
 use Rattle.dtml.specs.Table.{Reply, reply}
-use Rattle.dtml.specs.Store.{Memory, Store, store, fresh, size, record_at, tx}
+use Rattle.dtml.specs.Store.{Memory, Store, store, size, record_at, tx}
 use Rattle.dtml.specs.Lines.{crash_txs}
 use Rattle.dtml.specs.Checks.{not_idle}
 use Rattle.dtml.specs.Handed.{Left, turn_left, event_left, call_one, call_system, carry, is_crash, crashed, reach, slot_of}
@@ -35,18 +35,18 @@ use Rattle.reader.specs.declared.TraceRefusal.TheVariants.{UnknownKind, WrongLen
 use Rattle.reader.specs.declared.Record.{Record}
 use Rattle.reader.specs.declared.place.Read.{Read}
 use Rattle.reader.specs.declared.place.Reader.{Reader}
-use Rattle.reader.specs.Trace.{Item, end, stops, does, found, script, script_of}
-use Rattle.reader.specs.Said.{item, read, number_of, place_after, moved_on}
+use Rattle.reader.specs.Trace.{does, found, script, script_of}
+use Rattle.reader.specs.Said.{item, number_of, place_after, moved_on}
 use Rattle.reader.proofs.Scripts.{script-end, script-stops, refusal-small, after-inside}
 use Rattle.text.specs.Buffer.{Buffer, buffer, puts}
 use Rattle.day.specs.declared.Totals.{Totals}
+use Rattle.day.specs.declared.Replayed.{Replayed}
 use Rattle.day.specs.Replay.{totals, answer_text, done}
-use Rattle.day.specs.Ends.{refusal_in, record_in}
+use Rattle.day.specs.Ends.{refusal_in, record_in, EndsBeside}
 use Rattle.day.specs.Counted.{counted, Few}
 use Rattle.day.proofs.Going.{totals-same, rest_of, Going, going_start, going_on, ends_so, prints-so, text-so, one-line-so, next-record, few-records}
 use Rattle.trace.specs.declared.run.Change.{Change}
 use Rattle.trace.specs.declared.run.Moved.{Moved}
-use Rattle.trace.specs.declared.run.Reached.{Reached}
 use Rattle.trace.specs.Turning.{Moment, recovery_after, record_after, crashed_by, moment_of, counts, call_moment, OneLine, Brief, Ready, refusal_of, stopped_at, Through}
 
 -- ---- what a call leaves
@@ -290,3 +290,10 @@ through {bs} {n} {first} {m} {o} {t} {r} {ts} d kept over {a} is =
       short = text-so n bs first (store m r ts) t kept.at o kept.going k left (refusal-low a t.records) kept.short;
       few = next-record kept.going kept.short;
     }
+
+-- ---- before and after the loop
+
+-- the rows that are lent are those of the memory at its end, and the buffer is that of the page
+pub with-rows : {bs : List ℕ} {with : List Tx → Store} {n : ℕ} {r : Replayed} {vol pers old out₀ out vol' pers' old' out' : List ℕ} → vol ≡ vol' → pers ≡ pers' → old ≡ old' → out ≡ out'
+    → EndsBeside bs with n r vol' pers' old' out₀ out' → EndsBeside bs with n r vol pers old out₀ out
+with-rows a b d e z = rw (a, b, d, e) z

@@ -59,25 +59,29 @@ pub fn replay_beside(
         vol.new pers.new old.new out.old out.new }
 {
     let mut page = Page { bytes: out, at: 0 };
-    if let Err(refusal) = begun(trace, vol.len(), pers.len(), old.len(), txs) {
-        let stopped = Some(Stopped { refusal, number: 0 });
-        return Replayed {
-            ended: ended(&mut page, stopped, Totals::NONE, held),
-            txs: None,
-        };
+    match begun(trace, vol.len(), pers.len(), old.len(), txs) {
+        Ok(_) => {
+            zero(vol);
+            zero(pers);
+            zero(old);
+            let marks = Held::FRESH.marks;
+            let mut memory = Memory {
+                vol,
+                pers,
+                old_words: old,
+                marks,
+                glb: 0,
+            };
+            run(trace, &mut memory, &mut page)
+        }
+        Err(refusal) => {
+            let stopped = Some(Stopped { refusal, number: 0 });
+            Replayed {
+                ended: ended(&mut page, stopped, Totals::NONE, held),
+                txs: None,
+            }
+        }
     }
-    zero(vol);
-    zero(pers);
-    zero(old);
-    let marks = Held::FRESH.marks;
-    let mut memory = Memory {
-        vol,
-        pers,
-        old_words: old,
-        marks,
-        glb: 0,
-    };
-    run(trace, &mut memory, &mut page)
 }
 
 // The same on a lent row of records, which is left as it is or has 64 records of the store after the trace.

@@ -1,7 +1,7 @@
 -- `trace::run::go_through` meets its contract: before the first turn the store is fresh, a turn's end is the law on what it says to be changed, and after the last
 -- one the replay is through.
-use mathlib.Core.Path.{◌≡◌, refl, ap, ◌∙◌}
-use Rattle.std.specs.Prelude.{Some, Ok}
+use mathlib.Core.Path.{refl, ap, ◌∙◌}
+use Rattle.std.specs.Prelude.{Some}
 use Rattle.std.proofs.Common.{rules}
 use Rattle.parts.proofs.Lent.{same-start, same-then}
 use Rattle.trace.proofs.Turned.{starts, asks, nothing-on, record-on, recovery-on, crash-on, through}
