@@ -9,7 +9,7 @@ use native.Mathlib.Omega.{arith}
 use borrow.Author.Tests.{ne_eqb}
 use lib.Count.{ones, ones-le, count_trailing_zeros}
 use lib.Dec.{eqb}
-use lib.ListN.{length, get_or, set, drop, drop_of_length-le}
+use lib.ListN.{length, get_or, set, drop, drop_of_length-le, replicate}
 use lib.Seq.{drop-cons}
 use Rattle.std.specs.Prelude.{bit_or, bit_and}
 use Rattle.bits.specs.Marks.{put, is_marked, with_mark, clear_of, count_of, lowest_of, stands_from}
@@ -42,15 +42,14 @@ read-past m w four h = past-unmarked m w (omega arith)
 
 pub ruleset reading = (read-inside, read-past)
 
--- the cleared row is as many zeros as the row has numbers
-pub clear_four : (m : List ℕ) → length m ≡ 4 → clear_of m ≡ 0 ∷ 0 ∷ 0 ∷ 0 ∷ []
+-- ---- the cleared row: as many zeros as the row has numbers
+zeros : (m : List ℕ) → clear_of m ≡ replicate (length m) 0
 unfolding clear_of
-clear_four [] h = absurd (omega arith)
-clear_four (a ∷ []) h = absurd (omega arith)
-clear_four (a ∷ b ∷ []) h = absurd (omega arith)
-clear_four (a ∷ b ∷ c ∷ []) h = absurd (omega arith)
-clear_four (a ∷ b ∷ c ∷ d ∷ []) h = refl
-clear_four (a ∷ b ∷ c ∷ d ∷ e ∷ m) h = absurd (omega arith)
+zeros [] = refl
+zeros (x ∷ xs) = ap (λ (r : List ℕ). 0 ∷ r) (zeros xs)
+
+pub clear_four : (m : List ℕ) → length m ≡ 4 → clear_of m ≡ replicate 4 0
+clear_four m four = zeros m ∙ ap (λ (n : ℕ). replicate n 0) four
 
 -- ---- the count
 pub count-next : (m : List ℕ) (i : ℕ) → i < length m → get_or m i 0 < 2 ^ 64 → count_of (drop i m) ≡ ones (get_or m i 0) + count_of (drop (i + 1) m)

@@ -18,7 +18,7 @@ pub fn mark(m: &mut Marks, w: u64)
     }
 }
 
-// A number of the row with no mark at that place.
+// The number with no mark at that place. It goes by value, which says that it has 64 bits: a row that is lent to be written says so no longer at the return.
 #[tactic(auto, using(crate::proofs::Row::marking))]
 fn without(number: u64, place: u64) -> u64
     requires { place < 64 }

@@ -1,4 +1,5 @@
 // Phases and recovery as numbers, for hosts in other languages; specs/Spelling.antt has the table of both.
+// Each has its own table both ways; a trait over the two would only name the four functions again, so there is none.
 
 #![tactic(auto)]
 
