@@ -155,9 +155,20 @@ impl<'a> Page<'a> {
     }
 }
 
-// How many digits a number has.
+// How many digits a number has. `checked_ilog10` says it too, but a line took half as long again with it.
 fn digit_count(n: u32) -> usize
     ensures { result ≡ length (decimal n) }
 {
-    n.checked_ilog10().unwrap_or(0) as usize + 1
+    match n {
+        0..=9 => 1,
+        10..=99 => 2,
+        100..=999 => 3,
+        1000..=9999 => 4,
+        10000..=99999 => 5,
+        100000..=999999 => 6,
+        1000000..=9999999 => 7,
+        10000000..=99999999 => 8,
+        100000000..=999999999 => 9,
+        _ => 10,
+    }
 }
