@@ -155,11 +155,7 @@ impl<'a> Page<'a> {
     }
 }
 
-<<<<<<< HEAD
-// How many digits a number has. `checked_ilog10` says it too, and with it the lines of a replay took over half as long again.
-=======
 // How many digits a number has. `checked_ilog10` says it too, but a line took half as long again with it.
->>>>>>> 805c1ce3c936a78372d8cab618286b2c49d45bbb
 fn digit_count(n: u32) -> usize
     ensures { result ≡ length (decimal n) }
 {
