@@ -86,13 +86,13 @@ module _ (i : ℕ) (z : Rows) (a : After) (asked : Call) (is : asked ≡ asked_a
   answers : reply a.answer ≡ (outcome_at i).reply
   answers = ap (λ (x : Outcome). x.reply) went
 
-  pub wrote : (out old bytes pers : List ℕ) (place at : ℕ) → buffer old place ≡ text_at out i → pers ≡ (store_at (i + 1)).mem.pers
-      → buffer bytes at ≡ puts (buffer old place) (told asked (reply a.answer) pers) → buffer bytes at ≡ text_at out (i + 1)
+  pub wrote : (out pers : List ℕ) (o p : Buffer) → o ≡ text_at out i → pers ≡ (store_at (i + 1)).mem.pers
+      → p ≡ puts o (told asked (reply a.answer) pers) → p ≡ text_at out (i + 1)
   unfolding store_at text_at
-  wrote out old bytes pers place at before kept f =
+  wrote out pers o p before kept f =
       f
-      ∙ ap (λ (o : Buffer). puts o (told asked (reply a.answer) pers)) before
-      ∙ ap (λ (p : List ℕ). puts (text_at out i) (told asked (reply a.answer) p)) (kept ∙ ap (λ (k : ℕ). (store_at k).mem.pers) (add-one i))
+      ∙ ap (λ (x : Buffer). puts x (told asked (reply a.answer) pers)) before
+      ∙ ap (λ (xs : List ℕ). puts (text_at out i) (told asked (reply a.answer) xs)) (kept ∙ ap (λ (k : ℕ). (store_at k).mem.pers) (add-one i))
       ∙ ap (λ (x : Call). puts (text_at out i) (told x (reply a.answer) (rows_at (suc i)).pers)) is
       ∙ ap (λ (r : Reply). puts (text_at out i) (told (asked_at i) r (rows_at (suc i)).pers)) answers
       ∙ ap (text_at out) (sym (add-one i))
