@@ -1,5 +1,5 @@
 // What is written of a call, put on a page.
-ghost use Rattle.std.specs.Prelude.{◌≡◌, ◌++◌, get_or, ltb};
+ghost use Rattle.std.specs.Prelude.{◌≡◌, ◌++◌, get_or};
 ghost use Rattle.dtml.specs.Table.{reply};
 ghost use Rattle.text.specs.Buffer.{puts};
 ghost use Rattle.text.specs.Page.{LendsSame, on_page};
@@ -20,13 +20,14 @@ fn put_named(page: &mut Page, name: &[u8], n: u64)
     page.put_decimal(n);
 }
 
+// A name, and the answer as number and value.
 #[tactic(auto, using(text::proofs::Laws::putting), unfolding(text::specs::Buffer::puts, crate::specs::Join::line))]
-fn put_line(page: &mut Page, name: &[u8], n: u64, v: u64)
+fn put_line(page: &mut Page, name: &[u8], answer: Answered)
     ensures same { LendsSame page.old page.new }
-    ensures text { on_page page.new ≡ puts (on_page page.old) (line name.now n v) }
+    ensures text { on_page page.new ≡ puts (on_page page.old) (line name.now (reply answer).number (reply answer).value) }
 {
-    put_named(page, name, n);
-    put_named(page, b" ", v);
+    put_named(page, name, number(answer));
+    put_named(page, b" ", value(answer));
     page.put_byte(b'\n');
 }
 
@@ -36,13 +37,11 @@ fn put_answered(page: &mut Page, answer: Answered)
     ensures same { LendsSame page.old page.new }
     ensures text { on_page page.new ≡ puts (on_page page.old) (answered (reply answer).number (reply answer).value) }
 {
-    let n = number(answer);
-    let v = value(answer);
     match answer {
-        Ok(Answer::Begun) => put_line(page, b"begin: ", n, v),
-        Ok(Answer::Written) => put_line(page, b"write: ", n, v),
-        Ok(Answer::Committed) => put_line(page, b"commit: ", n, v),
-        Ok(Answer::Recovered { .. }) => put_line(page, b"recovery: ", n, v),
+        Ok(Answer::Begun) => put_line(page, b"begin: ", answer),
+        Ok(Answer::Written) => put_line(page, b"write: ", answer),
+        Ok(Answer::Committed) => put_line(page, b"commit: ", answer),
+        Ok(Answer::Recovered { .. }) => put_line(page, b"recovery: ", answer),
         _ => {}
     }
 }
@@ -51,7 +50,7 @@ fn put_answered(page: &mut Page, answer: Answered)
 fn word(row: &[u32], i: usize) -> u64
     ensures { result ≡ get_or row.now i 0 }
 {
-    row.get(i).copied().unwrap_or(0) as u64
+    u64::from(row.get(i).copied().unwrap_or(0))
 }
 
 #[tactic(auto, using(text::proofs::Laws::putting), unfolding(text::specs::Buffer::puts, crate::specs::Join::words))]
@@ -71,19 +70,20 @@ fn power_fails(asked: Call) -> bool
     matches!(asked, Call::Of { sys: Sys::Crash })
 }
 
+// A call's line, and the persistent words where no transaction goes on: at a crash, and after a commit and recovery.
 #[tactic(auto, using(text::proofs::Laws::putting), unfolding(crate::specs::Join::tells))]
 pub(crate) fn tell(page: &mut Page, asked: Call, answer: Answered, pers: &[u32])
     ensures same { LendsSame page.old page.new }
     ensures text { on_page page.new ≡ puts (on_page page.old) (told asked (reply answer) pers.now) }
 {
-    let n = number(answer);
     if power_fails(asked) {
         put_words(page, pers);
-        put_line(page, b"the power fails: ", n, value(answer));
+        put_line(page, b"the power fails: ", answer);
         return;
     }
     put_answered(page, answer);
-    if 4 <= n {
-        put_words(page, pers);
+    match answer {
+        Ok(Answer::Taken { .. } | Answer::Begun | Answer::Read { .. } | Answer::Written) => {}
+        _ => put_words(page, pers),
     }
 }

@@ -1,5 +1,5 @@
--- What is printed over plain values: one call more is made of what so many left; the rows that are lent are parts of arrays of 256 zeros, as long as the definition's, so the store is the definition's; and the
--- buffer has room for any line of three numbers, so all of it stands there.
+-- What is printed over plain values. So many calls and one more are the call on what so many left. The rows that are lent are parts of arrays of 256 zeros, as long as
+-- the definition's, so the store is the definition's; and the buffer has room for any line of three numbers, so all of it stands there.
 use Prim.Native.Nat.{ℕ, ◌+◌, ◌≤◌, ◌<◌, ◌^◌}
 use native.Mathlib.Numerals.{add-one}
 use native.Mathlib.Omega.{arith}
