@@ -1,7 +1,7 @@
 -- The line of one record: none where the answer is 0, else its three numbers, in thirty bytes at the most.
 use Prim.Native.Nat.{ℕ, ◌^◌, ◌≤◌, ◌<◌}
 use native.Mathlib.Omega.{arith}
-use borrow.Author.Tests.{eq-eqb, ne_eqb}
+use borrow.Author.Tests.{eq-eqb}
 use mathlib.Core.Path.{◌≡◌}
 use mathlib.Core.List.{List, []}
 use lib.ListN.{length}
@@ -13,7 +13,6 @@ use Rattle.dtml.specs.declared.Refusal.{Refusal}
 use Rattle.dtml.specs.declared.Refusal.TheVariants.{Unfit, NoWord, NoRecord, NotIdle, NotFresh, NotReady, NoLine, Idle}
 use Rattle.dtml.specs.Table.{reply}
 use Rattle.dtml.proofs.Words.{pick-case}
-use Rattle.text.specs.Text.{answer_line}
 use Rattle.text.proofs.Laws.{answer-short}
 use Rattle.day.specs.Replay.{answer_text}
 
@@ -37,9 +36,6 @@ two_digits (Err Idle) = omega arith
 -- an answer 0 has no line
 pub no_line : (k : ℕ) (a : Result Answer Refusal) → (reply a).number ≡ 0 → answer_text k (reply a) ≡ []
 no_line k a z = rw (eq-eqb (reply a).number 0 z)
-
-pub its-line : (k : ℕ) (a : Result Answer Refusal) → ((reply a).number ≡ 0 → ⊥) → answer_text k (reply a) ≡ answer_line k (reply a).number (reply a).value
-its-line k a some = rw (ne_eqb (reply a).number 0 some)
 
 pub brief-line : (k : ℕ) (a : Result Answer Refusal) → (reply a).value < 2 ^ 64 → k < 100000 → length (answer_text k (reply a)) ≤ 30
 brief-line k a wide few =

@@ -1,2 +1,1 @@
 pub mod Whole
-pub mod Caller

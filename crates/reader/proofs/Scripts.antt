@@ -138,36 +138,6 @@ script-does bs c k e =
     (ap (λ (x : Script). script (c ∷ x.calls) x.refusal)
     (script-more (length bs) (length (drop k bs)) (drop k bs) (shorter bs c k (length bs) e (omega arith)) (omega arith)))
 
--- ---- a refusal's number
-
-does_not : {A : Type 0} {c : Call} {k n : ℕ} → does c k ≡ stops n → A
-does_not e = let z : ◌≡◌ {A = ℕ} 0 1 = cc in absurd (omega arith)
-
-end-no-stop : {A : Type 0} {n : ℕ} → end ≡ stops n → A
-end-no-stop e = let z : ◌≡◌ {A = ℕ} 0 1 = cc in absurd (omega arith)
-
-stops-small : {m n : ℕ} → m < 100 → stops m ≡ stops n → n < 100
-stops-small {m} {n} h e = let z : m ≡ n = cc in omega arith
-
-kind-refusal : (ks : List Kind) (body : List ℕ) (n : ℕ) → of_kind ks body ≡ stops n → n < 100
-unfolding of_kind
-kind-refusal [] body n = stops-small (omega arith)
-kind-refusal (x ∷ xs) body n =
-    let P : Item → Type 0 = λ f. (f ≡ stops n → n < 100) in
-    pick-case P (eqb (byte body 0) x.number)
-    (λ e. pick-case P (eqb (length body) x.long) (λ e. does_not) (λ e. stops-small (omega arith)))
-    (λ e. kind-refusal xs body n)
-
-pub found-refusal : (bs : List ℕ) (n : ℕ) → found bs ≡ stops n → n < 100
-unfolding found
-found-refusal bs n =
-    let P : Item → Type 0 = λ f. (f ≡ stops n → n < 100) in
-    pick-case P (eqb (length bs) 0) (λ e. end-no-stop)
-    (λ e. pick-case P (ltb (length bs) 2) (λ e. stops-small (omega arith))
-    (λ e. pick-case P (eqb (two bs 0) 0) (λ e. stops-small (omega arith))
-    (λ e. pick-case P (ltb (length bs) (2 + two bs 0)) (λ e. stops-small (omega arith))
-    (λ e. kind-refusal kinds (take (two bs 0) (drop 2 bs)) n))))
-
 -- ---- the first check that applies
 
 abbrev pub NoneApplies : List Check → Type 0

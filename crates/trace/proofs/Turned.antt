@@ -54,9 +54,6 @@ use Rattle.trace.specs.Turning.{Moment, recovery_after, record_after, crashed_by
 abbrev moment : Memory → Recovery → Tx → Totals → Buffer → Moment
 moment m r t n o = record { mem = m; rec = r; tx = t; totals = n; text = o; crashed = false }
 
-pub few-number : {t t' : Totals} {crashes lines cut committed : ℕ} → t' ≡ totals (t.records + 1) crashes lines cut committed → Few 65536 t → t'.records < 100000
-few-number e f = let z = ap (λ (x : Totals). x.records) e in omega (arith, f.records)
-
 module _ (m : Memory) (r : Recovery) (t : Tx) (n : Totals) (o : Buffer) where
   -- what a call left and printed, and how many bytes that are
   abbrev Told : Call → Moment → Type 0
