@@ -7,8 +7,6 @@ use mathlib.Core.List.{List, [], ◌∷◌, ◌++◌}
 use native.Mathlib.Nat.{pow-suc, mod-eq_of_lt}
 use native.Mathlib.Numerals.{add-one}
 use native.Mathlib.Omega.{arith}
-use Rattle.std.specs.Option.{IfNone, IfSome, unwrap_or}
-use Rattle.std.proofs.Common.{Option, None, Some}
 use lib.ListN.{length, set, length-append}
 use lib.Seq.{sets, set_comm}
 use Rattle.text.specs.Buffer.{Buffer, buffer, puts}
@@ -18,15 +16,11 @@ use Rattle.text.proofs.Laws.{one-or-more, one-digit, more-digits, decimal-one, d
 -- ---- how many digits
 
 -- the power of ten that is the last below a number says how many
-decimal-width : (k n : ℕ) → 10 ^ k ≤ n → n < 10 * 10 ^ k → k + 1 ≡ length (decimal n)
+pub decimal-width : (k n : ℕ) → 10 ^ k ≤ n → n < 10 * 10 ^ k → k + 1 ≡ length (decimal n)
 decimal-width zero n l h = omega (arith, one-digit n h)
 decimal-width (suc k) n l h =
     let ten : 10 ≤ n = omega (arith, pow-suc 10 k) in
     omega (arith, more-digits n ten, decimal-width k (n / 10) (omega (arith, pow-suc 10 k)) (omega (arith, pow-suc 10 k)))
-
-pub width-of : (n : ℕ) (power : Option ℕ) → IfNone power (n ≡ 0) → IfSome power (λ k. 10 ^ k ≤ n) → IfSome power (λ k. n < 10 * 10 ^ k) → unwrap_or power 0 + 1 ≡ length (decimal n)
-width-of n None zero-of l h = omega (arith, one-digit n (omega arith))
-width-of n (Some k) z l h = decimal-width k n l h
 
 -- ---- the last digits
 

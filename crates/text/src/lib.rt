@@ -5,7 +5,7 @@
 ghost use Rattle.std.specs.Prelude.{◌+◌, ◌^◌, ◌≤◌, ◌<◌, ◌≡◌, true, [], ◌∷◌, ◌++◌, length};
 ghost use Rattle.text.specs.Text.{decimal, answer_line, stop_line, totals_line};
 ghost use Rattle.text.specs.Buffer.{put, puts};
-ghost use Rattle.text.specs.Page.{on_page};
+ghost use Rattle.text.specs.Page.{LendsSame, on_page};
 
 // A lent buffer, and the place up to which text stands in it. Each method puts its text there and moves the place behind it; a full buffer stays as it is.
 #[derive(Drop)]
@@ -18,7 +18,7 @@ pub struct Page<'a> {
 impl<'a> Page<'a> {
     #[tactic(auto, unfolding(crate::specs::Buffer::put))]
     pub fn put_byte(&mut self, b: u8)
-        ensures same { self.new.bytes.ghost_name ≡ self.old.bytes.ghost_name }
+        ensures same { LendsSame self.old self.new }
         ensures text { on_page self.new ≡ put (on_page self.old) b }
     {
         if self.at < self.bytes.len() {
@@ -28,7 +28,7 @@ impl<'a> Page<'a> {
     }
 
     pub fn put_bytes(&mut self, text: &[u8])
-        ensures same { self.new.bytes.ghost_name ≡ self.old.bytes.ghost_name }
+        ensures same { LendsSame self.old self.new }
         ensures text { on_page self.new ≡ puts (on_page self.old) text.now }
     {
         for byte in text {
@@ -38,7 +38,7 @@ impl<'a> Page<'a> {
 
     // A number below 10 is one digit; any other is the digits of n / 10, and then one more.
     pub fn put_decimal(&mut self, n: u64)
-        ensures same { self.new.bytes.ghost_name ≡ self.old.bytes.ghost_name }
+        ensures same { LendsSame self.old self.new }
         ensures text { on_page self.new ≡ puts (on_page self.old) (decimal n) }
     {
         if n < 10 {
@@ -51,7 +51,7 @@ impl<'a> Page<'a> {
 
     // A number, and the byte after it.
     fn put_field(&mut self, n: u64, end: u8)
-        ensures same { self.new.bytes.ghost_name ≡ self.old.bytes.ghost_name }
+        ensures same { LendsSame self.old self.new }
         ensures text { on_page self.new ≡ puts (on_page self.old) (decimal n ++ (end ∷ [])) }
     {
         self.put_decimal(n);
@@ -61,7 +61,7 @@ impl<'a> Page<'a> {
     // A number's digits, the last one first, where there is room for ten.
     fn put_digits(&mut self, n: u32)
         requires { self.old.at + 10 ≤ length self.old.bytes.now }
-        ensures same { self.new.bytes.ghost_name ≡ self.old.bytes.ghost_name }
+        ensures same { LendsSame self.old self.new }
         ensures text { on_page self.new ≡ puts (on_page self.old) (decimal n) }
     {
         let at = self.at;
@@ -77,7 +77,7 @@ impl<'a> Page<'a> {
     // A number, and the byte after it, where there is room for eleven bytes. Most numbers of a line are one digit.
     fn put_short(&mut self, n: u32, end: u8)
         requires { self.old.at + 11 ≤ length self.old.bytes.now }
-        ensures same { self.new.bytes.ghost_name ≡ self.old.bytes.ghost_name }
+        ensures same { LendsSame self.old self.new }
         ensures text { on_page self.new ≡ puts (on_page self.old) (decimal n ++ (end ∷ [])) }
     {
         if n < 10 {
@@ -96,7 +96,7 @@ impl<'a> Page<'a> {
     // The line of three short numbers, where there is room for any.
     fn put_short_answer(&mut self, number: u32, answer: u32, value: u32)
         requires { self.old.at + 33 ≤ length self.old.bytes.now }
-        ensures same { self.new.bytes.ghost_name ≡ self.old.bytes.ghost_name }
+        ensures same { LendsSame self.old self.new }
         ensures text { on_page self.new ≡ puts (on_page self.old) (answer_line number answer value) }
     {
         self.put_short(number, b' ');
@@ -113,7 +113,7 @@ impl<'a> Page<'a> {
 
     // The line of an answer. Where there is room for any line of short numbers, its bytes are not tested for room one by one.
     pub fn put_answer(&mut self, number: u64, answer: u64, value: u64)
-        ensures same { self.new.bytes.ghost_name ≡ self.old.bytes.ghost_name }
+        ensures same { LendsSame self.old self.new }
         ensures text { on_page self.new ≡ puts (on_page self.old) (answer_line number answer value) }
     {
         if self.has_room_for_line() {
@@ -132,7 +132,7 @@ impl<'a> Page<'a> {
     }
 
     pub fn put_stop(&mut self, refusal: u64, number: u64)
-        ensures same { self.new.bytes.ghost_name ≡ self.old.bytes.ghost_name }
+        ensures same { LendsSame self.old self.new }
         ensures text { on_page self.new ≡ puts (on_page self.old) (stop_line refusal number) }
     {
         self.put_byte(b'X');
@@ -142,7 +142,7 @@ impl<'a> Page<'a> {
     }
 
     pub fn put_totals(&mut self, records: u64, crashes: u64, lines: u64, cut: u64, committed: u64)
-        ensures same { self.new.bytes.ghost_name ≡ self.old.bytes.ghost_name }
+        ensures same { LendsSame self.old self.new }
         ensures text { on_page self.new ≡ puts (on_page self.old) (totals_line records crashes lines cut committed) }
     {
         self.put_byte(b'T');
@@ -155,9 +155,20 @@ impl<'a> Page<'a> {
     }
 }
 
-// How many digits a number has.
+// How many digits a number has. `checked_ilog10` says it too, but a line took half as long again with it.
 fn digit_count(n: u32) -> usize
     ensures { result ≡ length (decimal n) }
 {
-    n.checked_ilog10().unwrap_or(0) as usize + 1
+    match n {
+        0..=9 => 1,
+        10..=99 => 2,
+        100..=999 => 3,
+        1000..=9999 => 4,
+        10000..=99999 => 5,
+        100000..=999999 => 6,
+        1000000..=9999999 => 7,
+        10000000..=99999999 => 8,
+        100000000..=999999999 => 9,
+        _ => 10,
+    }
 }

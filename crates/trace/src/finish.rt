@@ -1,7 +1,7 @@
 // The end of a replay, and its last lines.
 ghost use Rattle.std.specs.Prelude.{◌+◌, ◌<◌, ◌≡◌};
 ghost use Rattle.text.specs.Buffer.{puts};
-ghost use Rattle.text.specs.Page.{on_page};
+ghost use Rattle.text.specs.Page.{LendsSame, on_page};
 ghost use Rattle.day.specs.Replay.{stop_text, end_text};
 ghost use Rattle.day.specs.Ends.{stop_number, refusal_in, record_in};
 ghost use Rattle.trace.specs.Turning.{stopped_at};
@@ -22,7 +22,7 @@ fn stop_number(refusal: ReplayRefusal) -> u64
 
 // The X line, if something stopped the replay.
 fn put_stop_if(page: &mut Page, stopped: Option<Stopped>)
-    ensures same { page.new.bytes.ghost_name ≡ page.old.bytes.ghost_name }
+    ensures same { LendsSame page.old page.new }
     ensures text { on_page page.new ≡ puts (on_page page.old) (stop_text (refusal_in stopped) (record_in stopped)) }
 {
     match stopped {
@@ -32,7 +32,7 @@ fn put_stop_if(page: &mut Page, stopped: Option<Stopped>)
 }
 
 fn put_end(page: &mut Page, stopped: Option<Stopped>, totals: Totals)
-    ensures same { page.new.bytes.ghost_name ≡ page.old.bytes.ghost_name }
+    ensures same { LendsSame page.old page.new }
     ensures text { on_page page.new ≡ puts (on_page page.old) (end_text (refusal_in stopped) (record_in stopped) totals) }
 {
     put_stop_if(page, stopped);
@@ -46,7 +46,7 @@ fn put_end(page: &mut Page, stopped: Option<Stopped>, totals: Totals)
 }
 
 pub(crate) fn ended(page: &mut Page, stopped: Option<Stopped>, totals: Totals, held: Held) -> Ended
-    ensures same { page.new.bytes.ghost_name ≡ page.old.bytes.ghost_name }
+    ensures same { LendsSame page.old page.new }
     ensures end { result ≡ record { stopped = stopped; totals = totals; length = page.new.at; held = held } }
     ensures text { on_page page.new ≡ puts (on_page page.old) (end_text (refusal_in stopped) (record_in stopped) totals) }
 {

@@ -10,7 +10,7 @@ ghost use Rattle.dtml.specs.Checks.{not_idle};
 ghost use Rattle.parts.specs.Lent.{memory_of, SameRows};
 ghost use Rattle.reader.specs.Trace.{script_of};
 ghost use Rattle.text.specs.Buffer.{buffer, puts};
-ghost use Rattle.text.specs.Page.{on_page};
+ghost use Rattle.text.specs.Page.{LendsSame, on_page};
 ghost use Rattle.day.specs.Replay.{totals as totals_from, answer_text, done as done_of};
 ghost use Rattle.day.specs.Ends.{Ends};
 ghost use Rattle.day.specs.Counted.{Few};
@@ -78,7 +78,7 @@ fn cut_by_crash(recovery: Recovery, marks: &Marks) -> u64
 // The line of a record that was answered other than 0.
 fn put_answer_if(page: &mut Page, record_number: u64, answer: Answer)
     requires { record_number < 100000 }
-    ensures same { page.new.bytes.ghost_name ≡ page.old.bytes.ghost_name }
+    ensures same { LendsSame page.old page.new }
     ensures text { on_page page.new ≡ puts (on_page page.old) (answer_text record_number (reply (Ok answer))) }
     ensures brief { length (answer_text record_number (reply (Ok answer))) ≤ 30 }
 {
@@ -91,7 +91,7 @@ fn put_answer_if(page: &mut Page, record_number: u64, answer: Answer)
 // The line of a record that was refused.
 fn put_refusal(page: &mut Page, record_number: u64, refusal: Refusal)
     requires { record_number < 100000 }
-    ensures same { page.new.bytes.ghost_name ≡ page.old.bytes.ghost_name }
+    ensures same { LendsSame page.old page.new }
     ensures text { on_page page.new ≡ puts (on_page page.old) (answer_text record_number (reply (Err refusal))) }
     ensures brief { length (answer_text record_number (reply (Err refusal))) ≤ 30 }
 {
@@ -135,7 +135,7 @@ fn on_record(
 ) -> Moved
     requires { Few 65536 totals }
     ensures rows { SameRows memory.old memory.new }
-    ensures page { page.new.bytes.ghost_name ≡ page.old.bytes.ghost_name }
+    ensures page { LendsSame page.old page.new }
     ensures moves { moment_of result (memory_of memory.new) (on_page page.new) recovery tx
         ≡ call_moment (memory_of memory.old) recovery tx totals (on_page page.old) (on id ask) }
     ensures brief { Brief (memory_of memory.old) recovery tx totals (on id ask) }
@@ -167,7 +167,7 @@ fn on_none(
 ) -> Moved
     requires { Few 65536 totals × OneLine (sys_asked sys) }
     ensures rows { SameRows memory.old memory.new }
-    ensures page { page.new.bytes.ghost_name ≡ page.old.bytes.ghost_name }
+    ensures page { LendsSame page.old page.new }
     ensures moves { moment_of result (memory_of memory.new) (on_page page.new) recovery tx
         ≡ call_moment (memory_of memory.old) recovery tx totals (on_page page.old) (sys_asked sys) }
     ensures brief { Brief (memory_of memory.old) recovery tx totals (sys_asked sys) }
@@ -213,7 +213,7 @@ fn turn(
 ) -> Moved
     requires { Few 65536 totals × OneLine call }
     ensures rows { SameRows memory.old memory.new }
-    ensures page { page.new.bytes.ghost_name ≡ page.old.bytes.ghost_name }
+    ensures page { LendsSame page.old page.new }
     ensures moves { moment_of result (memory_of memory.new) (on_page page.new) recovery tx
         ≡ call_moment (memory_of memory.old) recovery tx totals (on_page page.old) call }
     ensures brief { Brief (memory_of memory.old) recovery tx totals call }
@@ -238,7 +238,7 @@ fn refusal_of(item: Item) -> Option<TraceRefusal>
 fn go_through(trace: &[u8], memory: &mut Memory, page: &mut Page) -> Reached
     requires { Ready trace.now (memory_of memory.old) page.old.at }
     ensures rows { SameRows memory.old memory.new }
-    ensures page { page.new.bytes.ghost_name ≡ page.old.bytes.ghost_name }
+    ensures page { LendsSame page.old page.new }
     ensures through { Through (done_of (length memory.old.vol.now) (script_of trace.now)) result
         (memory_of memory.new) page.old.bytes.now (on_page page.new) }
 {
@@ -272,7 +272,7 @@ fn go_through(trace: &[u8], memory: &mut Memory, page: &mut Page) -> Reached
 pub(crate) fn run(trace: &[u8], memory: &mut Memory, page: &mut Page) -> Replayed
     requires { Ready trace.now (memory_of memory.old) page.old.at }
     ensures rows { SameRows memory.old memory.new }
-    ensures page { page.new.bytes.ghost_name ≡ page.old.bytes.ghost_name }
+    ensures page { LendsSame page.old page.new }
     ensures ends { Runs (done_of (length memory.old.vol.now) (script_of trace.now)) result
         (memory_of memory.new) page.old.bytes.now page.new.bytes.now }
 {

@@ -14,7 +14,7 @@ loop-i-init c =
     let at : ℕ = c.args.self.now.at in
     let width = c.digit_count-width.ensures in
     record {
-      same = refl;
+      same = (refl, refl);
       long = refl;
       room = omega (arith, width, c.requires, narrow c.args.n c.ranges.n.fits);
       digits = ap (λ (i : ℕ). sets out at (last_digits i c.args.n)) width ∙ backwards-all out at c.args.n;

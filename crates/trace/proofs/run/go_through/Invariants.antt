@@ -1,15 +1,14 @@
 -- The loop keeps the rows and the page that it was lent, and what is known of its locals (`Kept`). The measure is the bytes that are left.
-use mathlib.Core.Path.{◌≡◌}
 use Rattle.dtml.specs.Store.{size}
 use Rattle.parts.specs.Lent.{memory_of, SameRows}
-use Rattle.text.specs.Page.{on_page}
+use Rattle.text.specs.Page.{LendsSame, on_page}
 use Rattle.trace.proofs.Turned.{measure, Kept}
 use Rattle.trace.proofs.run.go_through.Given as goal
 
 abbrev pub invariant-loop-read : goal.invariant-loop-read
 invariant-loop-read l =
     SameRows l.initial.memory l.memory
-    × (l.page.bytes.ghost_name ≡ l.initial.page.bytes.ghost_name)
+    × LendsSame l.initial.page l.page
     × Kept l.trace (size (memory_of l.initial.memory)) l.initial.page.bytes.now (memory_of l.memory) (on_page l.page) l.totals l.recovery l.rows l.read
 
 abbrev pub decreases-loop-read : goal.decreases-loop-read
