@@ -152,5 +152,5 @@ beside_same bs vol pers old held n lent x y e f =
     let store = store_of vol pers old held row in
     let both = closed_same (replay bs store) lent (opened x row) (opened y row) (e.ends row long) (f.ends row long) in
     let records = same-records x.replayed.txs y.replayed.txs row (begins bs store) (e.changed row long) (f.changed row long) (begins-64 bs store)
-      (ap (λ (z : Closed). z.txs) both) in
+    (ap (λ (z : Closed). z.txs) both) in
     ap (λ z. shut z x.replayed.txs) both ∙ ap (shut (opened y row)) records

@@ -2,17 +2,21 @@
 -- the outcome is the definition's (`result`, `row`), or it can be read back from what is said of it (the others).
 use Prim.Native.Nat.{ℕ}
 use mathlib.Core.Path.{◌≡◌, refl, sym, ap, ◌∙◌}
-use mathlib.Core.List.{List}
+use mathlib.Core.List.{List, []}
 use seplogic.Ra.Ura.{Ura}
 use base.Logic.{ent, via, emp, sep}
 use contract.Conj.{conj_r, conj_mono, sep→conj}
 use contract.Monad.{conj, fact, guard-conj, fact_mono}
-use base.Fml.{GName}
+use Rattle.std.specs.Prelude.{Option, Result}
+use Rattle.dtml.specs.declared.Refusal.{Refusal}
 use Rattle.dtml.specs.declared.Tx.{Tx}
 use Rattle.dtml.specs.Store.{Memory, Store}
 use Rattle.parts.specs.declared.memory.Memory.{Memory as Lent}
 use Rattle.parts.specs.Lent.{memory_of, SameRows}
+use Rattle.lines.specs.declared.turn.Turn.{Turn}
+use Rattle.system.specs.declared.Event.{Event}
 use Rattle.machine.specs.declared.After.{After}
+use Rattle.machine.specs.declared.work.Worked.{Worked}
 use Rattle.machine.specs.Working.{Renewed}
 use Rattle.reader.specs.declared.Seen.{Seen}
 use Rattle.reader.specs.Trace.{Item}
@@ -20,11 +24,11 @@ use Rattle.reader.specs.Said.{item}
 use Rattle.reader.specs.declared.place.Reader.{Reader}
 use Rattle.reader.specs.declared.place.Read.{Read}
 use Rattle.text.specs.declared.Page.{Page}
-use Rattle.text.specs.Buffer.{Buffer}
-use Rattle.text.specs.Page.{on_page}
+use Rattle.text.specs.Buffer.{Buffer, buffer}
+use Rattle.text.specs.Page.{on_page, LendsSame}
 use Rattle.day.specs.declared.Ended.{Ended}
 use Rattle.day.specs.declared.Replayed.{Replayed}
-use Rattle.unique.specs.Unique.{memory_seen, page_seen, through, UniqueOutcomes}
+use Rattle.unique.specs.Unique.{UniqueOutcomes}
 use Rattle.unique.proofs.Readings.{turn-same, event-same, after_same, worked_same, header-same, item-same}
 use Rattle.unique.proofs.Endings.{Closed, ClosedBeside, closed_same, beside_same}
 
@@ -70,38 +74,40 @@ module _ {W : Type 0} where
       ap (λ z. (record { item = z; after = x.0.after }, x.1)) (item-same x.0.item y.0.item p.0 q.0)
       ∙ ap (λ z. (record { item = y.0.item; after = z }, x.1)) (p.1 ∙ sym q.1)
 
--- ---- a struct that is lent, read through its references: what a promise says to be the same is which borrows these are, and what the definitions read of it is settled
+-- ---- a struct that is lent and holds rows that are lent: each row is the same place and the same loan, and what the definitions read of the struct is settled
 
--- the memory that is read as m, in borrows of these names
-abbrev seen_as : GName → GName → GName → Memory → Lent
-seen_as v p o m =
+-- the memory that is read as m, in the rows of l
+abbrev in_rows : Lent → Memory → Lent
+in_rows l m =
     record {
-      vol = record { ref_ptr = (0, 0); ghost_name = v; now = m.vol };
-      pers = record { ref_ptr = (0, 0); ghost_name = p; now = m.pers };
-      old_words = record { ref_ptr = (0, 0); ghost_name = o; now = m.old };
+      vol = record l.vol { now = m.vol };
+      pers = record l.pers { now = m.pers };
+      old_words = record l.old_words { now = m.old };
       marks = m.marks;
       glb = m.glb;
     }
 
+same-rows : {a : Lent} (b c : Lent) (m : Memory) → SameRows a b → SameRows a c → in_rows b m ≡ in_rows c m
+same-rows b c m s t =
+    rw (s.vol.place, s.vol.loan, s.pers.place, s.pers.loan, s.old.place, s.old.loan, t.vol.place, t.vol.loan, t.pers.place, t.pers.loan, t.old.place, t.old.loan)
+
 on-memory : {R W : Type 0} {a : Lent} (x y : R × (Lent × W)) → SameRows a x.1.0 → SameRows a y.1.0
     → ◌≡◌ {A = R × Memory} (x.0, memory_of x.1.0) (y.0, memory_of y.1.0)
-    → through memory_seen (x.0, (x.1.0, x.1.1)) ≡ through memory_seen (y.0, (y.1.0, x.1.1))
+    → ◌≡◌ {A = R × (Lent × W)} (x.0, (x.1.0, x.1.1)) (y.0, (y.1.0, x.1.1))
 on-memory {R} x y s t e =
-    ap (λ v. (x.0, (seen_as v x.1.0.pers.ghost_name x.1.0.old_words.ghost_name (memory_of x.1.0), x.1.1))) (s.vol ∙ sym t.vol)
-    ∙ ap (λ p. (x.0, (seen_as y.1.0.vol.ghost_name p x.1.0.old_words.ghost_name (memory_of x.1.0), x.1.1))) (s.pers ∙ sym t.pers)
-    ∙ ap (λ o. (x.0, (seen_as y.1.0.vol.ghost_name y.1.0.pers.ghost_name o (memory_of x.1.0), x.1.1))) (s.old ∙ sym t.old)
-    ∙ ap (λ (z : R × Memory). (z.0, (seen_as y.1.0.vol.ghost_name y.1.0.pers.ghost_name y.1.0.old_words.ghost_name z.1, x.1.1))) e
+    ap (λ l. (x.0, (l, x.1.1))) (same-rows x.1.0 y.1.0 (memory_of x.1.0) s t) ∙ ap (λ (z : R × Memory). (z.0, (in_rows y.1.0 z.1, x.1.1))) e
 
--- the page that is read as that buffer, in a borrow of that name
-abbrev page_as : GName → Buffer → Page
-page_as n o = record { bytes = record { ref_ptr = (0, 0); ghost_name = n; now = o.bytes }; at = o.at }
+-- the page that is read as that buffer, in the bytes of p
+abbrev in_bytes : Page → Buffer → Page
+in_bytes p o = record { bytes = record p.bytes { now = o.bytes }; at = o.at }
 
-printed : {W : Type 0} {n : GName} {d : Buffer} (x y : Unit {0} × (Page × W)) → x.1.0.bytes.ghost_name ≡ n → y.1.0.bytes.ghost_name ≡ n
-    → on_page x.1.0 ≡ d → on_page y.1.0 ≡ d
-    → ◌≡◌ {A = Unit {0} × (Page × W)} (through page_seen (tt, (x.1.0, x.1.1))) (through page_seen (tt, (y.1.0, x.1.1)))
-printed x y m n p q =
-    ap (λ k. (tt, (page_as k (on_page x.1.0), x.1.1))) (m ∙ sym n)
-    ∙ ap (λ o. (tt, (page_as y.1.0.bytes.ghost_name o, x.1.1))) (p ∙ sym q)
+same-bytes : (a b c : Page) (o : Buffer) → LendsSame a b → LendsSame a c → in_bytes b o ≡ in_bytes c o
+same-bytes a b c o s t = rw (s.0, s.1, t.0, t.1)
+
+printed : {W : Type 0} {d : Buffer} (lent : Page) (x y : Unit {0} × (Page × W)) → LendsSame lent x.1.0 → LendsSame lent y.1.0 → on_page x.1.0 ≡ d → on_page y.1.0 ≡ d
+    → ◌≡◌ {A = Unit {0} × (Page × W)} (tt, (x.1.0, x.1.1)) (tt, (y.1.0, x.1.1))
+printed lent x y s t p q =
+    ap (λ b. (tt, (b, x.1.1))) (same-bytes lent x.1.0 y.1.0 (on_page x.1.0) s t) ∙ ap (λ o. (tt, (in_bytes y.1.0 o, x.1.1))) (p ∙ sym q)
 
 -- the end of a replay
 abbrev closed : Ended × (Unit {0} × (List ℕ × (List ℕ × (List ℕ × (List Tx × (Unit {0} × (List ℕ × Unit {0}))))))) → Closed
@@ -157,12 +163,12 @@ unique-outcomes 𝓤 =
       spelling-spell-recovery = (λ κs a. refl, λ 𝓛 mem run κs a g x y. both 𝓤 (result x y));
       spelling-read-recovery = (λ κs a. refl, λ 𝓛 mem run κs a g x y. both 𝓤 (result x y));
       spelling-same-spelling = (λ κs a. refl, λ 𝓛 mem run κs a g x y. both 𝓤 (result x y));
-      text-put-byte = (λ κs a. refl, λ 𝓛 mem run κs a g x y. said 𝓤 (printed x y));
-      text-put-bytes = (λ κs a. refl, λ 𝓛 mem run κs a g x y. said 𝓤 (printed x y));
-      text-put-decimal = (λ κs a. refl, λ 𝓛 mem run κs a g x y. said 𝓤 (printed x y));
-      text-put-answer = (λ κs a. refl, λ 𝓛 mem run κs a g x y. said 𝓤 (printed x y));
-      text-put-stop = (λ κs a. refl, λ 𝓛 mem run κs a g x y. said 𝓤 (printed x y));
-      text-put-totals = (λ κs a. refl, λ 𝓛 mem run κs a g x y. said 𝓤 (printed x y));
+      text-put-byte = (λ κs a. refl, λ 𝓛 mem run κs a g x y. said 𝓤 (printed a.0.now x y));
+      text-put-bytes = (λ κs a. refl, λ 𝓛 mem run κs a g x y. said 𝓤 (printed a.0.now x y));
+      text-put-decimal = (λ κs a. refl, λ 𝓛 mem run κs a g x y. said 𝓤 (printed a.0.now x y));
+      text-put-answer = (λ κs a. refl, λ 𝓛 mem run κs a g x y. said 𝓤 (printed a.0.now x y));
+      text-put-stop = (λ κs a. refl, λ 𝓛 mem run κs a g x y. said 𝓤 (printed a.0.now x y));
+      text-put-totals = (λ κs a. refl, λ 𝓛 mem run κs a g x y. said 𝓤 (printed a.0.now x y));
       day-from = (λ κs a. refl, λ 𝓛 mem run κs a g x y. both 𝓤 (result x y));
       trace-replay-beside = (λ κs a. refl, λ 𝓛 mem run κs a g x y. both 𝓤 (λ p q. ap (λ (z : ClosedBeside). (z.replayed, (tt, (z.vol, (z.pers, (z.old, (tt, (tt, (z.out, tt))))))))) (beside_same _ _ _ _ _ _ _ (beside x) (beside y) p q)));
       trace-replay = (λ κs a. refl, λ 𝓛 mem run κs a g x y. both 𝓤 (λ p q. ap (λ (z : Closed). (z.ended, (tt, (z.vol, (z.pers, (z.old, (z.txs, (tt, (z.out, tt))))))))) (closed_same _ _ (closed x) (closed y) p q)));

@@ -10,12 +10,9 @@ use types.Logic.{Logic}
 use contract.Monad.{Fun, conj, fact}
 use contract.Lifetimes.{Lfts}
 use denote.Exit.{yes}
-use denote.MutBor.{MutBor}
 use denote.Triple.Entry.{Args, Res}
 use denote.Triple.End.{Fins, all}
 use denote.Triple.Clauses.{Ended, Lasts, at_exit, Clauses}
-use Rattle.parts.specs.declared.memory.Memory.{Memory as Lent}
-use Rattle.text.specs.declared.Page.{Page}
 use Rattle.marks.specs.contracts as marks
 use Rattle.parts.specs.contracts as parts
 use Rattle.lines.specs.contracts as lines
@@ -37,46 +34,17 @@ abbrev pub Whole : Ended → Type 1
 Whole T =
     (κs : Lfts T.signature.lifetimes) (a : Args T.signature κs) → Lasts T κs a ≡ Fins κs T.signature.params (all yes T.signature.params) a
 
--- Any two outcomes that a promise allows are equal: in every model, and for all arguments, where its `ensures` holds of both, they are.
+-- Any two outcomes that a promise allows are equal: in every model, and for all arguments, where its `ensures` holds of both, they are. Of a struct that is lent and
+-- itself holds rows that are lent, all is settled: of each row the place in memory, the loan and what stands in it.
 module _ {M : Type 1} {𝓤 : Ura M} where
-  -- they are in that relation
-  abbrev SettledBy : (T : Ended)
-      → ((𝓛 : Logic 𝓤) → (Memory → SProp 𝓤) → (Routine → Fun 𝓤) → Clauses 𝓤 T)
-      → ((κs : Lfts T.signature.lifetimes) (a : Args T.signature κs) → Outcome T κs a → Outcome T κs a → Type 0)
-      → Type 2
-  SettledBy T promise alike =
+  abbrev pub Settled : (T : Ended) → ((𝓛 : Logic 𝓤) → (Memory → SProp 𝓤) → (Routine → Fun 𝓤) → Clauses 𝓤 T) → Type 2
+  Settled T promise =
       Whole T
       × ((𝓛 : Logic 𝓤) (mem : Memory → SProp 𝓤) (run : Routine → Fun 𝓤) (κs : Lfts T.signature.lifetimes) (a : Args T.signature κs)
       (g : (promise 𝓛 mem run κs a).ghost) (x y : Outcome T κs a)
       → ent 𝓤
       (conj 𝓤 ((promise 𝓛 mem run κs a).ensures g x.0 (at_exit T κs a x.1)) ((promise 𝓛 mem run κs a).ensures g y.0 (at_exit T κs a y.1)))
-      (fact 𝓤 (alike κs a x y)))
-
-  abbrev pub Settled : (T : Ended) → ((𝓛 : Logic 𝓤) → (Memory → SProp 𝓤) → (Routine → Fun 𝓤) → Clauses 𝓤 T) → Type 2
-  Settled T promise = SettledBy T promise (λ κs a x y. x ≡ y)
-
-  -- where a struct is lent that itself holds rows that are lent: all that seen tells of them
-  abbrev pub SettledAs : (T : Ended)
-      → ((𝓛 : Logic 𝓤) → (Memory → SProp 𝓤) → (Routine → Fun 𝓤) → Clauses 𝓤 T)
-      → {S : Type 0}
-      → ((κs : Lfts T.signature.lifetimes) (a : Args T.signature κs) → Outcome T κs a → S)
-      → Type 2
-  SettledAs T promise seen = SettledBy T promise (λ κs a x y. seen κs a x ≡ seen κs a y)
-
--- A row that such a struct holds is told by the borrow that it is and by what stands in it. Only its address is left out: that is where the row lies that was lent,
--- and no promise speaks of it.
-abbrev row : {X : Type 0} → MutBor X → MutBor X
-row r = record r { ref_ptr = (0, 0) }
-
-abbrev pub memory_seen : Lent → Lent
-memory_seen m = record m { vol = row m.vol; pers = row m.pers; old_words = row m.old_words }
-
-abbrev pub page_seen : Page → Page
-page_seen p = record p { bytes = row p.bytes }
-
--- an outcome of a call whose first parameter is such a struct
-abbrev pub through : {R X W : Type 0} → (X → X) → R × (X × W) → R × (X × W)
-through see x = (x.0, (see x.1.0, x.1.1))
+      (fact 𝓤 (x ≡ y)))
 
 -- every public function of every crate
 pub record UniqueOutcomes {M : Type 1} (𝓤 : Ura M) : Type 2 where
@@ -103,10 +71,10 @@ pub record UniqueOutcomes {M : Type 1} (𝓤 : Ura M) : Type 2 where
   pub parts-unfit-idle : Settled parts.memory.Memory.unfit_idle.ended (parts.memory.Memory.unfit_idle.clauses {𝓤 = 𝓤})
   pub parts-unfit-beside : Settled parts.memory.Memory.unfit_beside.ended (parts.memory.Memory.unfit_beside.clauses {𝓤 = 𝓤})
   pub parts-unfit-one : Settled parts.memory.Memory.unfit_one.ended (parts.memory.Memory.unfit_one.clauses {𝓤 = 𝓤})
-  pub parts-flush-word : SettledAs parts.memory.Memory.flush_word.ended (parts.memory.Memory.flush_word.clauses {𝓤 = 𝓤}) (λ κs a. through memory_seen)
+  pub parts-flush-word : Settled parts.memory.Memory.flush_word.ended (parts.memory.Memory.flush_word.clauses {𝓤 = 𝓤})
   -- the calls, on what they are handed
-  pub lines-call-one : SettledAs lines.call_one.ended (lines.call_one.clauses {𝓤 = 𝓤}) (λ κs a. through memory_seen)
-  pub system-call-system : SettledAs system.call_system.ended (system.call_system.clauses {𝓤 = 𝓤}) (λ κs a. through memory_seen)
+  pub lines-call-one : Settled lines.call_one.ended (lines.call_one.clauses {𝓤 = 𝓤})
+  pub system-call-system : Settled system.call_system.ended (system.call_system.clauses {𝓤 = 𝓤})
   pub system-crash-tx : Settled system.crash_tx.ended (system.crash_tx.clauses {𝓤 = 𝓤})
   -- the calls, on a whole store
   pub records-get : Settled records.get.ended (records.get.clauses {𝓤 = 𝓤})
@@ -116,7 +84,7 @@ pub record UniqueOutcomes {M : Type 1} (𝓤 : Ura M) : Type 2 where
   pub records-store-if : Settled records.store_if.ended (records.store_if.clauses {𝓤 = 𝓤})
   pub machine-place-of : Settled machine.work.place_of.ended (machine.work.place_of.clauses {𝓤 = 𝓤})
   pub machine-slot : Settled machine.work.slot.ended (machine.work.slot.clauses {𝓤 = 𝓤})
-  pub machine-work : SettledAs machine.work.work.ended (machine.work.work.clauses {𝓤 = 𝓤}) (λ κs a. through memory_seen)
+  pub machine-work : Settled machine.work.work.ended (machine.work.work.clauses {𝓤 = 𝓤})
   pub machine-zero : Settled machine.work.zero.ended (machine.work.zero.clauses {𝓤 = 𝓤})
   pub machine-renew : Settled machine.work.renew.ended (machine.work.renew.clauses {𝓤 = 𝓤})
   pub machine-blank : Settled machine.work.blank.ended (machine.work.blank.clauses {𝓤 = 𝓤})
@@ -130,12 +98,12 @@ pub record UniqueOutcomes {M : Type 1} (𝓤 : Ura M) : Type 2 where
   pub spelling-read-recovery : Settled spelling.read_recovery.ended (spelling.read_recovery.clauses {𝓤 = 𝓤})
   pub spelling-same-spelling : Settled spelling.same_spelling.ended (spelling.same_spelling.clauses {𝓤 = 𝓤})
   -- the trace
-  pub text-put-byte : SettledAs text.Page.put_byte.ended (text.Page.put_byte.clauses {𝓤 = 𝓤}) (λ κs a. through page_seen)
-  pub text-put-bytes : SettledAs text.Page.put_bytes.ended (text.Page.put_bytes.clauses {𝓤 = 𝓤}) (λ κs a. through page_seen)
-  pub text-put-decimal : SettledAs text.Page.put_decimal.ended (text.Page.put_decimal.clauses {𝓤 = 𝓤}) (λ κs a. through page_seen)
-  pub text-put-answer : SettledAs text.Page.put_answer.ended (text.Page.put_answer.clauses {𝓤 = 𝓤}) (λ κs a. through page_seen)
-  pub text-put-stop : SettledAs text.Page.put_stop.ended (text.Page.put_stop.clauses {𝓤 = 𝓤}) (λ κs a. through page_seen)
-  pub text-put-totals : SettledAs text.Page.put_totals.ended (text.Page.put_totals.clauses {𝓤 = 𝓤}) (λ κs a. through page_seen)
+  pub text-put-byte : Settled text.Page.put_byte.ended (text.Page.put_byte.clauses {𝓤 = 𝓤})
+  pub text-put-bytes : Settled text.Page.put_bytes.ended (text.Page.put_bytes.clauses {𝓤 = 𝓤})
+  pub text-put-decimal : Settled text.Page.put_decimal.ended (text.Page.put_decimal.clauses {𝓤 = 𝓤})
+  pub text-put-answer : Settled text.Page.put_answer.ended (text.Page.put_answer.clauses {𝓤 = 𝓤})
+  pub text-put-stop : Settled text.Page.put_stop.ended (text.Page.put_stop.clauses {𝓤 = 𝓤})
+  pub text-put-totals : Settled text.Page.put_totals.ended (text.Page.put_totals.clauses {𝓤 = 𝓤})
   pub day-from : Settled day.ReplayRefusalFromTraceRefusal.from.ended (day.ReplayRefusalFromTraceRefusal.from.clauses {𝓤 = 𝓤})
   pub trace-replay-beside : Settled trace.replay_beside.ended (trace.replay_beside.clauses {𝓤 = 𝓤})
   pub trace-replay : Settled trace.replay.ended (trace.replay.clauses {𝓤 = 𝓤})
