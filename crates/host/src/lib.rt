@@ -6,7 +6,6 @@ ghost use Rattle.std.specs.Prelude.{◌≡◌};
 ghost use Rattle.text.specs.Buffer.{buffer, puts};
 ghost use Rattle.day.specs.Replay.{printed};
 
-use dtml::Recovery;
 use machine::Held;
 use reader::trace::header;
 use trace::replay_beside;
@@ -19,22 +18,15 @@ pub fn register_replay(trace: &[u8], out: &mut [u8]) -> usize
     let mut vol = [0u32; 256];
     let mut pers = [0u32; 256];
     let mut old = [0u32; 256];
-    let marks = [0u64; 4];
-    let held = Held {
-        marks,
-        glb: 0,
-        recovery: Recovery::Idle,
-    };
-    let n = header(trace).words;
+    let n = header(trace).unwrap_or(0);
     let done = replay_beside(
         trace,
         &mut vol[..n],
         &mut pers[..n],
         &mut old[..n],
-        held,
+        Held::FRESH,
         64,
         out,
     );
-    let ended = done.ended;
-    ended.length
+    done.ended.length
 }

@@ -6,8 +6,7 @@ ghost use Rattle.std.specs.Prelude.{◌≡◌, ◌++◌, length, drop};
 ghost use Rattle.io.specs.Counts.{IsPrefixLen};
 ghost use Rattle.day.specs.Replay.{printed};
 
-use dtml::Recovery;
-use input::read_full;
+use input::report_input;
 use machine::Held;
 use reader::trace::header;
 use std::io;
@@ -22,41 +21,21 @@ fn report(trace: &[u8], out: &mut [u8]) -> usize
     let mut vol = [0u32; 256];
     let mut pers = [0u32; 256];
     let mut old = [0u32; 256];
-    let marks = [0u64; 4];
-    let held = Held {
-        marks,
-        glb: 0,
-        recovery: Recovery::Idle,
-    };
-    let n = header(trace).words;
+    let n = header(trace).unwrap_or(0);
     let done = replay_beside(
         trace,
         &mut vol[..n],
         &mut pers[..n],
         &mut old[..n],
-        held,
+        Held::FRESH,
         64,
         out,
     );
-    let ended = done.ended;
-    ended.length
+    done.ended.length
 }
 
-// Room for any text.
-fn room() -> [u8; 655438]
-    ensures { 655438 ≡ length result }
-{
-    [0; 655438]
-}
-
-// Reads a trace, or as much of a longer one as shows that it is longer. Where a read fails, what stood before it is replayed all the same, and the program then ends
-// with the error.
+// Reads a trace, or as much of a longer one as shows that it is longer; there is room for any text. Where a read fails, what stood before it is replayed all the same,
+// and the program then ends with the error.
 fn main(rt: HostRuntime) -> io::Result<()> {
-    let mut bytes = [0u8; 65537];
-    let mut reader = rt.reader();
-    let (got, read) = read_full(&mut reader, &mut bytes);
-    let mut text = room();
-    let length = report(&bytes[..got], &mut text);
-    rt.write_all(&text[..length])?;
-    read
+    report_input::<65537, 655438, _, _, _>(&mut rt.reader(), &mut io::writer(&rt), report)
 }

@@ -5,23 +5,24 @@ use Rattle.day.proofs.Shown.{few_words, shown}
 use Rattle.host.proofs.register_replay.Goals as goal
 
 pub slice_bounds-vol-end : goal.slice_bounds-vol-end
-slice_bounds-vol-end c = few_words _ _ c.header-n.ensures
+slice_bounds-vol-end c = few_words _ c.header.result c.header.ensures _ c.unwrap_or-n.ensures
 
 pub slice_bounds-replay_beside-end : goal.slice_bounds-replay_beside-end
-slice_bounds-replay_beside-end c = sym (length-take-le _ _ (few_words _ _ c.header-n.ensures))
+slice_bounds-replay_beside-end c = sym (length-take-le _ _ (few_words _ c.header.result c.header.ensures _ c.unwrap_or-n.ensures))
 
 pub slice_bounds-pers-end : goal.slice_bounds-pers-end
-slice_bounds-pers-end c = few_words _ _ c.header-n.ensures
+slice_bounds-pers-end c = few_words _ c.header.result c.header.ensures _ c.unwrap_or-n.ensures
 
 pub slice_bounds-replay_beside-end-2 : goal.slice_bounds-replay_beside-end-2
-slice_bounds-replay_beside-end-2 c = sym (length-take-le _ _ (few_words _ _ c.header-n.ensures))
+slice_bounds-replay_beside-end-2 c = sym (length-take-le _ _ (few_words _ c.header.result c.header.ensures _ c.unwrap_or-n.ensures))
 
 pub slice_bounds-old-end : goal.slice_bounds-old-end
-slice_bounds-old-end c = few_words _ _ c.header-n.ensures
+slice_bounds-old-end c = few_words _ c.header.result c.header.ensures _ c.unwrap_or-n.ensures
 
 pub slice_bounds-replay_beside-end-3 : goal.slice_bounds-replay_beside-end-3
-slice_bounds-replay_beside-end-3 c = sym (length-take-le _ _ (few_words _ _ c.header-n.ensures))
+slice_bounds-replay_beside-end-3 c = sym (length-take-le _ _ (few_words _ c.header.result c.header.ensures _ c.unwrap_or-n.ensures))
 
 pub returns : goal.returns
 returns c =
-    (shown _ _ _ _ _ _ _ _ _ _ _ c.replay_beside-done.result c.header-n.ensures (sym (length-take-le _ _ (few_words _ _ c.header-n.ensures))) (sym (length-take-le _ _ (few_words _ _ c.header-n.ensures))) (sym (length-take-le _ _ (few_words _ _ c.header-n.ensures))) c.replay_beside-done.ensures).0
+    let long = sym (length-take-le _ _ (few_words _ c.header.result c.header.ensures _ c.unwrap_or-n.ensures)) in
+    (shown _ c.header.result c.header.ensures _ c.unwrap_or-n.ensures _ _ _ _ long long long _ _ _ _ _ c.replay_beside-done.result c.replay_beside-done.ensures).0

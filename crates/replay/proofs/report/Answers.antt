@@ -1,28 +1,30 @@
 -- `replay::report` meets its contract: the rows lent are as long as the header says, and the buffer has room for the text.
 use mathlib.Core.Path.{sym}
 use lib.Seq.{length-take-le}
-use Rattle.day.proofs.Shown.{few_words}
+use Rattle.day.proofs.Shown.{few_words, shown}
 use Rattle.replay.proofs.Reports.{reports}
 use Rattle.replay.proofs.report.Goals as goal
 
 pub slice_bounds-vol-end : goal.slice_bounds-vol-end
-slice_bounds-vol-end c = few_words _ _ c.header-n.ensures
+slice_bounds-vol-end c = few_words _ c.header.result c.header.ensures _ c.unwrap_or-n.ensures
 
 pub slice_bounds-replay_beside-end : goal.slice_bounds-replay_beside-end
-slice_bounds-replay_beside-end c = sym (length-take-le _ _ (few_words _ _ c.header-n.ensures))
+slice_bounds-replay_beside-end c = sym (length-take-le _ _ (few_words _ c.header.result c.header.ensures _ c.unwrap_or-n.ensures))
 
 pub slice_bounds-pers-end : goal.slice_bounds-pers-end
-slice_bounds-pers-end c = few_words _ _ c.header-n.ensures
+slice_bounds-pers-end c = few_words _ c.header.result c.header.ensures _ c.unwrap_or-n.ensures
 
 pub slice_bounds-replay_beside-end-2 : goal.slice_bounds-replay_beside-end-2
-slice_bounds-replay_beside-end-2 c = sym (length-take-le _ _ (few_words _ _ c.header-n.ensures))
+slice_bounds-replay_beside-end-2 c = sym (length-take-le _ _ (few_words _ c.header.result c.header.ensures _ c.unwrap_or-n.ensures))
 
 pub slice_bounds-old-end : goal.slice_bounds-old-end
-slice_bounds-old-end c = few_words _ _ c.header-n.ensures
+slice_bounds-old-end c = few_words _ c.header.result c.header.ensures _ c.unwrap_or-n.ensures
 
 pub slice_bounds-replay_beside-end-3 : goal.slice_bounds-replay_beside-end-3
-slice_bounds-replay_beside-end-3 c = sym (length-take-le _ _ (few_words _ _ c.header-n.ensures))
+slice_bounds-replay_beside-end-3 c = sym (length-take-le _ _ (few_words _ c.header.result c.header.ensures _ c.unwrap_or-n.ensures))
 
 pub returns : goal.returns
 returns c =
-    reports _ _ _ _ _ _ _ _ _ _ _ c.replay_beside-done.result c.header-n.ensures (sym (length-take-le _ _ (few_words _ _ c.header-n.ensures))) (sym (length-take-le _ _ (few_words _ _ c.header-n.ensures))) (sym (length-take-le _ _ (few_words _ _ c.header-n.ensures))) c.requires c.replay_beside-done.ensures
+    let long = sym (length-take-le _ _ (few_words _ c.header.result c.header.ensures _ c.unwrap_or-n.ensures)) in
+    reports _ _ _ c.replay_beside-done.result.ended.length c.requires
+    (shown _ c.header.result c.header.ensures _ c.unwrap_or-n.ensures _ _ _ _ long long long _ _ _ _ _ c.replay_beside-done.result c.replay_beside-done.ensures)
