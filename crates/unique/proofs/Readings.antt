@@ -3,17 +3,18 @@
 use Prim.Native.Nat.{ℕ}
 use mathlib.Core.Path.{◌≡◌, refl, sym, ap, ◌∙◌}
 use mathlib.Core.List.{List}
-use lib.Dec.{eqb, ltb}
+use lib.Dec.{eqb}
 use Rattle.std.specs.Prelude.{Option, None, Some, Result, Ok, Err}
 use Rattle.bits.specs.Marks.{pick}
 use Rattle.dtml.specs.declared.Answer.{Answer}
 use Rattle.dtml.specs.declared.Answer.TheVariants.{Taken, Begun, Read, Written, Committed, Aborted, Recovered}
 use Rattle.dtml.specs.declared.Refusal.{Refusal}
 use Rattle.dtml.specs.declared.Refusal.TheVariants.{Unfit, NoWord, NoRecord, NotIdle, NotFresh, NotReady, NoLine, Idle}
+use Rattle.dtml.specs.declared.Phase.TheVariants.{Fresh}
 use Rattle.dtml.specs.declared.Recovery.{Recovery}
 use Rattle.dtml.specs.declared.Tx.{Tx}
 use Rattle.dtml.specs.Table.{Reply, reply}
-use Rattle.dtml.specs.Store.{Memory, Store}
+use Rattle.dtml.specs.Store.{Memory, Store, tx}
 use Rattle.dtml.specs.Asked.{Outcome}
 use Rattle.dtml.specs.Handed.{Turned, no-turn, a_turn, Happened, nothing, a-flush, a-crash, some-lines}
 use Rattle.lines.specs.declared.turn.Turn.{Turn}
@@ -33,47 +34,22 @@ use Rattle.reader.specs.Said.{number_of, item, header_said}
 
 -- ---- the answer, from its number and value
 
-abbrev carried_in : Reply → Answer
-carried_in r =
-    pick (eqb r.number 0) (Taken r.value)
-    (pick (eqb r.number 1) Begun
-    (pick (eqb r.number 2) (Read r.value)
-    (pick (eqb r.number 3) Written
-    (pick (eqb r.number 4) Committed
-    (pick (eqb r.number 5) Aborted (Recovered r.value))))))
-
-carried-back : (a : Answer) → carried_in (reply (Ok a)) ≡ a
-carried-back (Taken n) = refl
-carried-back Begun = refl
-carried-back (Read v) = refl
-carried-back Written = refl
-carried-back Committed = refl
-carried-back Aborted = refl
-carried-back (Recovered n) = refl
-
-abbrev refused_in : Reply → Refusal
-refused_in r =
-    pick (eqb r.number 9) Unfit
-    (pick (eqb r.number 10) NoWord
-    (pick (eqb r.number 11) NoRecord
-    (pick (eqb r.number 12) NotIdle
-    (pick (eqb r.number 13) NotFresh
-    (pick (eqb r.number 14) NotReady
-    (pick (eqb r.number 15) NoLine Idle))))))
-
-refused-back : (k : Refusal) → refused_in (reply (Err k)) ≡ k
-refused-back Unfit = refl
-refused-back NoWord = refl
-refused-back NoRecord = refl
-refused-back NotIdle = refl
-refused-back NotFresh = refl
-refused-back NotReady = refl
-refused-back NoLine = refl
-refused-back Idle = refl
-
--- the numbers of refusals begin with 9
 abbrev answered_in : Reply → Result Answer Refusal
-answered_in r = pick (ltb r.number 9) (Ok (carried_in r)) (Err (refused_in r))
+answered_in r =
+    pick (eqb r.number 0) (Ok (Taken r.value))
+    (pick (eqb r.number 1) (Ok Begun)
+    (pick (eqb r.number 2) (Ok (Read r.value))
+    (pick (eqb r.number 3) (Ok Written)
+    (pick (eqb r.number 4) (Ok Committed)
+    (pick (eqb r.number 5) (Ok Aborted)
+    (pick (eqb r.number 6) (Ok (Recovered r.value))
+    (pick (eqb r.number 9) (Err Unfit)
+    (pick (eqb r.number 10) (Err NoWord)
+    (pick (eqb r.number 11) (Err NoRecord)
+    (pick (eqb r.number 12) (Err NotIdle)
+    (pick (eqb r.number 13) (Err NotFresh)
+    (pick (eqb r.number 14) (Err NotReady)
+    (pick (eqb r.number 15) (Err NoLine) (Err Idle))))))))))))))
 
 answered-back : (x : Result Answer Refusal) → answered_in (reply x) ≡ x
 answered-back (Ok (Taken n)) = refl
@@ -94,29 +70,38 @@ answered-back (Err Idle) = refl
 
 -- ---- what a call gives back, with what it leaves
 
+-- what is carried out stands beside the answer, and a refusal stands alone
+abbrev turn_with : Result Answer Refusal → Tx → Result Turn Refusal
+turn_with (Ok a) t = Ok (record { answer = a; tx = t })
+turn_with (Err k) t = Err k
+
 abbrev turn_in : Turned → Result Turn Refusal × Memory
-turn_in (no-turn a m) = (Err (refused_in a), m)
-turn_in (a_turn d) = (Ok (record { answer = carried_in d.reply; tx = d.tx }), d.mem)
+turn_in (no-turn a m) = (turn_with (answered_in a) (tx 0 Fresh), m)
+turn_in (a_turn d) = (turn_with (answered_in d.reply) d.tx, d.mem)
 
 turn-back : (x : Result Turn Refusal) (m : Memory) → turn_in (turned_of x m) ≡ (x, m)
-turn-back (Ok u) m = ap (λ a. (Ok (record { answer = a; tx = u.tx }), m)) (carried-back u.answer)
-turn-back (Err k) m = ap (λ k. (Err k, m)) (refused-back k)
+turn-back (Ok u) m = ap (λ b. (turn_with b u.tx, m)) (answered-back (Ok u.answer))
+turn-back (Err k) m = ap (λ b. (turn_with b (tx 0 Fresh), m)) (answered-back (Err k))
 
 pub turn-same : {m m' : Memory} {d : Turned} (x y : Result Turn Refusal) → turned_of x m ≡ d → turned_of y m' ≡ d
     → ◌≡◌ {A = Result Turn Refusal × Memory} (x, m) (y, m')
 turn-same {m} {m'} x y p q = sym (turn-back x m) ∙ ap turn_in (p ∙ sym q) ∙ turn-back y m'
 
+abbrev lines_with : Result Answer Refusal → ℕ → Recovery → Result Event Refusal
+lines_with (Ok a) k r = Ok (Event.RecoveryLines a k r)
+lines_with (Err k') k r = Err k'
+
 abbrev event_in : Happened → Result Event Refusal × Memory
-event_in (nothing a m) = (Err (refused_in a), m)
+event_in (nothing a m) = (lines_with (answered_in a) 0 Recovery.Idle, m)
 event_in (a-flush m) = (Ok Event.Flushed, m)
 event_in (a-crash m) = (Ok Event.Crashed, m)
-event_in (some-lines k h) = (Ok (Event.RecoveryLines (carried_in h.reply) k h.rec), h.mem)
+event_in (some-lines k h) = (lines_with (answered_in h.reply) k h.rec, h.mem)
 
 event-back : (x : Result Event Refusal) (m : Memory) → event_in (happened_of x m) ≡ (x, m)
 event-back (Ok Event.Flushed) m = refl
 event-back (Ok Event.Crashed) m = refl
-event-back (Ok (Event.RecoveryLines a k r)) m = ap (λ b. (Ok (Event.RecoveryLines b k r), m)) (carried-back a)
-event-back (Err k) m = ap (λ k. (Err k, m)) (refused-back k)
+event-back (Ok (Event.RecoveryLines a k r)) m = ap (λ b. (lines_with b k r, m)) (answered-back (Ok a))
+event-back (Err k) m = ap (λ b. (lines_with b 0 Recovery.Idle, m)) (answered-back (Err k))
 
 pub event-same : {m m' : Memory} {d : Happened} (x y : Result Event Refusal) → happened_of x m ≡ d → happened_of y m' ≡ d
     → ◌≡◌ {A = Result Event Refusal × Memory} (x, m) (y, m')

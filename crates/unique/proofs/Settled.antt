@@ -2,21 +2,16 @@
 -- the outcome is the definition's (`result`, `row`), or it can be read back from what is said of it (the others).
 use Prim.Native.Nat.{ℕ}
 use mathlib.Core.Path.{◌≡◌, refl, sym, ap, ◌∙◌}
-use mathlib.Core.List.{List, []}
+use mathlib.Core.List.{List}
 use seplogic.Ra.Ura.{Ura}
 use base.Logic.{ent, via, emp, sep}
 use contract.Conj.{conj_r, conj_mono, sep→conj}
 use contract.Monad.{conj, fact, guard-conj, fact_mono}
-use Rattle.std.specs.Prelude.{Option, Result}
-use Rattle.dtml.specs.declared.Refusal.{Refusal}
 use Rattle.dtml.specs.declared.Tx.{Tx}
 use Rattle.dtml.specs.Store.{Memory, Store}
 use Rattle.parts.specs.declared.memory.Memory.{Memory as Lent}
 use Rattle.parts.specs.Lent.{memory_of, SameRows}
-use Rattle.lines.specs.declared.turn.Turn.{Turn}
-use Rattle.system.specs.declared.Event.{Event}
 use Rattle.machine.specs.declared.After.{After}
-use Rattle.machine.specs.declared.work.Worked.{Worked}
 use Rattle.machine.specs.Working.{Renewed}
 use Rattle.reader.specs.declared.Seen.{Seen}
 use Rattle.reader.specs.Trace.{Item}
@@ -24,7 +19,7 @@ use Rattle.reader.specs.Said.{item}
 use Rattle.reader.specs.declared.place.Reader.{Reader}
 use Rattle.reader.specs.declared.place.Read.{Read}
 use Rattle.text.specs.declared.Page.{Page}
-use Rattle.text.specs.Buffer.{Buffer, buffer}
+use Rattle.text.specs.Buffer.{Buffer}
 use Rattle.text.specs.Page.{on_page, LendsSame}
 use Rattle.day.specs.declared.Ended.{Ended}
 use Rattle.day.specs.declared.Replayed.{Replayed}
@@ -172,6 +167,7 @@ unique-outcomes 𝓤 =
       day-from = (λ κs a. refl, λ 𝓛 mem run κs a g x y. both 𝓤 (result x y));
       trace-replay-beside = (λ κs a. refl, λ 𝓛 mem run κs a g x y. both 𝓤 (λ p q. ap (λ (z : ClosedBeside). (z.replayed, (tt, (z.vol, (z.pers, (z.old, (tt, (tt, (z.out, tt))))))))) (beside_same _ _ _ _ _ _ _ (beside x) (beside y) p q)));
       trace-replay = (λ κs a. refl, λ 𝓛 mem run κs a g x y. both 𝓤 (λ p q. ap (λ (z : Closed). (z.ended, (tt, (z.vol, (z.pers, (z.old, (z.txs, (tt, (z.out, tt))))))))) (closed_same _ _ (closed x) (closed y) p q)));
+      host-register-replay = (λ κs a. refl, λ 𝓛 mem run κs a g x y. both 𝓤 (λ p q. ap (λ (z : Buffer). (z.at, (tt, (z.bytes, tt)))) (p ∙ sym q)));
       reader-number = (λ κs a. refl, λ 𝓛 mem run κs a g x y. both 𝓤 (result x y));
       reader-header = (λ κs a. refl, λ 𝓛 mem run κs a g x y. both 𝓤 (λ p q. ap (λ z. (z, x.1)) (header-same x.0 y.0 p q)));
       reader-next = (λ κs a. refl, λ 𝓛 mem run κs a g x y. both 𝓤 (read x y));

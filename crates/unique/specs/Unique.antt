@@ -1,6 +1,6 @@
 -- Document 01: "For all inputs a public function's promise settles the answer and every lent row afterwards, after a refusal too." A promise is a function's clauses
--- as the toolchain makes them from its source, so none can be weakened unseen. A method is a public function of its type, `text.Page.put_byte` that of `Page`, and one
--- of a trait is so under the type's name and the trait's. The one exception is `input::read_full`, whose outcome is the reader's.
+-- as the toolchain makes them from its source, so none can be weakened unseen. A method stands below its type, as `text.Page.put_byte`, and a trait's method below the
+-- type's name and the trait's. The exceptions are `input::read_full` and `input::report_input`, whose outcomes are the reader's to say, and the writer's.
 use Rattle.std.specs.Prelude.{◌≡◌}
 use seplogic.Ra.Ura.{Ura}
 use base.Logic.{SProp, ent}
@@ -23,6 +23,7 @@ use Rattle.spelling.specs.contracts as spelling
 use Rattle.text.specs.contracts as text
 use Rattle.day.specs.contracts as day
 use Rattle.trace.specs.contracts as trace
+use Rattle.host.specs.contracts as host
 use Rattle.reader.specs.contracts as reader
 
 -- the outcome of a call on the arguments a: what is returned, and for each parameter that is lent as `&mut` the value that it is left with
@@ -107,6 +108,7 @@ pub record UniqueOutcomes {M : Type 1} (𝓤 : Ura M) : Type 2 where
   pub day-from : Settled day.ReplayRefusalFromTraceRefusal.from.ended (day.ReplayRefusalFromTraceRefusal.from.clauses {𝓤 = 𝓤})
   pub trace-replay-beside : Settled trace.replay_beside.ended (trace.replay_beside.clauses {𝓤 = 𝓤})
   pub trace-replay : Settled trace.replay.ended (trace.replay.clauses {𝓤 = 𝓤})
+  pub host-register-replay : Settled host.register_replay.ended (host.register_replay.clauses {𝓤 = 𝓤})
   pub reader-number : Settled reader.number.ended (reader.number.clauses {𝓤 = 𝓤})
   pub reader-header : Settled reader.trace.header.ended (reader.trace.header.clauses {𝓤 = 𝓤})
   pub reader-next : Settled reader.place.next.ended (reader.place.next.clauses {𝓤 = 𝓤})
