@@ -73,9 +73,9 @@ fn restart(memory: &mut Memory)
     ensures same { SameRows memory.old memory.new }
     ensures restarted { memory_of memory.new ≡ crash_memory (memory_of memory.old) }
 {
-    for w in 0..memory.vol.len() {
-        memory.vol[w] = memory.pers[w];
-    }
+    let vol = &mut *memory.vol;
+    let pers = &mut *memory.pers;
+    vol.copy_from_slice(pers);
     memory.glb = 0;
 }
 

@@ -47,7 +47,7 @@ use Rattle.day.specs.Counted.{counted, Few}
 use Rattle.day.proofs.Going.{totals-same, rest_of, Going, going_start, going_on, ends_so, prints-so, text-so, one-line-so, next-record, few-records}
 use Rattle.trace.specs.declared.run.Change.{Change}
 use Rattle.trace.specs.declared.run.Moved.{Moved}
-use Rattle.trace.specs.Turning.{Moment, recovery_after, record_after, crashed_by, moment_of, counts, call_moment, OneLine, Brief, Ready, refusal_of, stopped_at, Through}
+use Rattle.trace.specs.Turning.{Moment, recovery_after, record_after, crashed_by, moment_of, counts, call_moment, OneLine, Brief, Ready, stopped_at, Through}
 
 -- ---- what a call leaves
 
@@ -146,112 +146,7 @@ module _ (m : Memory) (r : Recovery) (t : Tx) (n : Totals) (o : Buffer) where
         → Told (sys k) (moment m' r' t n' o')
     none-lines is n printed short = none-told is _ refl (none-counts (counted-as is) n) printed short
 
--- ---- the loop's invariant
-
--- the bytes that are left after what was read, while it is a record
-abbrev pub measure : List ℕ → Option (Result Record TraceRefusal) → ℕ → ℕ
-measure bs None at = 0
-measure bs (Some (Ok x)) at = 1 + (length bs - at)
-measure bs (Some (Err k)) at = 0
-
--- what was read stands at some place, and the replay has come there
-pub record Kept (bs : List ℕ) (n : ℕ) (first : List ℕ) (m : Memory) (o : Buffer) (t : Totals) (r : Recovery) (ts : List Tx) (d : Read) : Type 0 where
-  pub at : ℕ
-  pub here : item d.item ≡ found (drop at bs)
-  pub same : d.reader.trace.now ≡ bs
-  pub place : d.reader.at ≡ place_after at (item d.item)
-  pub going : Going n bs first (store m r ts) t at o
-  pub short : length bs ≤ 65536
-
--- what `next` read there
-abbrev pub NextRead : Reader → Read → Type 0
-NextRead d z = (item z.item ≡ found (drop d.at d.trace.now)) × (z.reader ≡ moved_on d)
-
-module _ {bs : List ℕ} {n : ℕ} {first : List ℕ} {m : Memory} {o : Buffer} {t : Totals} {r : Recovery} {ts : List Tx} (d : Reader) (z : Read) (next : NextRead d z) where
-  pub comes : d.trace.now ≡ bs → Going n bs first (store m r ts) t d.at o → length bs ≤ 65536 → Kept bs n first m o t r ts z
-  comes same going short = record {
-    at = d.at;
-    here = next.0 ∙ ap (λ (xs : List ℕ). found (drop d.at xs)) same;
-    same = ap (λ (y : Reader). y.trace.now) next.1 ∙ same;
-    place = ap (λ (y : Reader). y.at) next.1 ∙ ap (place_after d.at) (sym next.0);
-    going = going;
-    short = short;
-  }
-
-pub starts : {bs first : List ℕ} {m : Memory} {place : ℕ} {t : Totals} {rows : List Tx} (d : Reader) (z : Read) → NextRead d z → d.trace.now ≡ bs → d.at ≡ 3
-    → Ready bs m place → t ≡ totals 0 0 0 0 0 → rows ≡ replicate 64 (tx 0 Fresh) → Kept bs (size m) first m (buffer first place) t Idle rows z
-starts {bs} {first} {m} d z next same three ready none blank =
-    comes d z next same
-    (rw (none, blank, ready.fresh-store, ready.empty, three) (going_start (size m) bs first ready.some-words ready.few-words ready.header))
-    ready.short
-
--- ---- a turn more
-
-module _ {bs : List ℕ} {n : ℕ} {first : List ℕ} {m : Memory} {o : Buffer} {t : Totals} {r : Recovery} {ts : List Tx} (d : Read) (kept : Kept bs n first m o t r ts d) (x : Record)
-    (is : d.item ≡ Some (Ok x)) where
-  stands : found (drop kept.at bs) ≡ does x.call x.bytes
-  stands = sym kept.here ∙ ap item is
-
-  inside : (kept.at < kept.at + x.bytes) × (kept.at + x.bytes ≤ length bs)
-  inside = after-inside bs kept.at x.call x.bytes stands
-
-  past : d.reader.at ≡ kept.at + x.bytes
-  past = kept.place ∙ ap (λ y. place_after kept.at (item y)) is
-
-  pub asks : Few 65536 t × OneLine x.call
-  asks = (few-records kept.going kept.short, one-line-so bs kept.at x.call x.bytes stands)
-
-  module _ {i : ℕ} (slot : i ≡ slot_of x.call) (y : Moved) {m' : Memory} {o' : Buffer}
-      (says : moment_of y m' o' r (record_at ts i) ≡ call_moment m r (record_at ts i) t o x.call) (brief : Brief m r (record_at ts i) t x.call)
-      (z : Read) (next : NextRead d.reader z) where
-    -- the replay has come to the place after the record
-    abbrev GoesAt : ℕ → Moment → Type 0
-    GoesAt k w = Going n bs first (store w.mem w.rec (reach w.crashed (set ts k w.tx))) w.totals (kept.at + x.bytes) w.text
-
-    goes : GoesAt i (moment_of y m' o' r (record_at ts i))
-    unfolding counted
-    goes =
-        subst (GoesAt i) (sym says)
-        (subst (λ k. GoesAt k (call_moment m r (record_at ts k) t o x.call)) (sym slot)
-        (going_on n bs first (store m r ts) t kept.at o kept.going x.call x.bytes stands _ refl (subst (λ k. Brief m r (record_at ts k) t x.call) slot brief)))
-
-    smaller : (j : Option (Result Record TraceRefusal)) → z.item ≡ j → measure bs j z.reader.at < 1 + (length bs - d.reader.at)
-    smaller None e = omega arith
-    smaller (Some (Err k)) e = omega arith
-    smaller (Some (Ok u)) e =
-        let here : found (drop d.reader.at bs) ≡ does u.call u.bytes =
-        ap (λ (xs : List ℕ). found (drop d.reader.at xs)) (sym kept.same) ∙ sym next.0 ∙ ap item e in
-        let b = after-inside bs d.reader.at u.call u.bytes here in
-        let to : z.reader.at ≡ d.reader.at + u.bytes =
-        ap (λ (y : Reader). y.at) next.1 ∙ ap (place_after d.reader.at) (sym next.0 ∙ ap item e) in
-        omega arith
-
-    -- with such a recovery and such records; and the bytes that are left are fewer
-    abbrev pub Onward : Recovery → List Tx → Type 0
-    Onward v rows = Kept bs n first m' o' y.totals v rows z × (measure bs z.item z.reader.at < measure bs d.item d.reader.at)
-
-    abbrev put_at : Change → List Tx
-    put_at c = reach (crashed_by c) (set ts i (record_after c (record_at ts i)))
-
-    onward : (c : Change) → y.change ≡ c → (rows : List Tx) → rows ≡ put_at c → Onward (recovery_after c r) rows
-    onward c e rows q = (
-      comes d.reader z next kept.same (rw (q, ← e, past) goes) kept.short,
-      rw (ap (λ j. measure bs j d.reader.at) is) (smaller z.item refl),
-    )
-
-    pub nothing-on : y.change ≡ Change.Nothing → Onward r ts
-    nothing-on e = onward Change.Nothing e ts (sym (set-get_or ts i (tx 0 Fresh)))
-
-    pub record-on : {t' : Tx} → y.change ≡ Change.Record t' → Onward r (set ts i t')
-    record-on {t'} e = onward (Change.Record t') e (set ts i t') refl
-
-    pub recovery-on : {r' : Recovery} → y.change ≡ Change.Recovery r' → Onward r' ts
-    recovery-on {r'} e = onward (Change.Recovery r') e ts (sym (set-get_or ts i (tx 0 Fresh)))
-
-    pub crash-on : y.change ≡ Change.Crash → {rows : List Tx} → rows ≡ crash_txs ts → Onward C1 rows
-    crash-on e {rows} q = onward Change.Crash e rows (q ∙ ap crash_txs (sym (set-get_or ts i (tx 0 Fresh))))
-
--- ---- after the loop
+-- ---- a refusal's number
 
 -- a refusal's number is none of 0
 stop-number : (k : TraceRefusal) (j : ℕ) → pick (eqb (number_of k) 0) 0 j ≡ j
@@ -270,26 +165,102 @@ refusal-low : (a : Option TraceRefusal) (j : ℕ) → refusal_in (stopped_at a j
 refusal-low None j = omega arith
 refusal-low (Some k) j = refusal-small k
 
--- what stopped it is what is left of the trace
-rest-stops : (bs : List ℕ) (at : ℕ) (a : Option (Result Record TraceRefusal)) (j : ℕ) → ((x : Record) → a ≡ Some (Ok x) → ⊥) → item a ≡ found (drop at bs)
-    → rest_of bs at ≡ script [] (refusal_in (stopped_at (refusal_of a) j))
-rest-stops bs at None j over e = script-end (drop at bs) (sym e)
-rest-stops bs at (Some (Ok x)) j over e = absurd (over x refl)
-rest-stops bs at (Some (Err k)) j over e = script-stops (drop at bs) (number_of k) (sym e)
+-- ---- the loop's invariant
 
-pub through : {bs : List ℕ} {n : ℕ} {first : List ℕ} {m : Memory} {o : Buffer} {t : Totals} {r : Recovery} {ts : List Tx} (d : Read) → Kept bs n first m o t r ts d
-    → ((x : Record) → d.item ≡ Some (Ok x) → ⊥) → {a : Option TraceRefusal} → a ≡ refusal_of d.item
-    → Through (done n (script_of bs)) (record { refusal = a; totals = t; recovery = r; txs = ts }) m first o
-through {bs} {n} {first} {m} {o} {t} {r} {ts} d kept over {a} is =
-    let k = refusal_in (stopped_at a t.records) in
-    let left : rest_of bs kept.at ≡ script [] k = rw is (rest-stops bs kept.at d.item t.records over kept.here) in
-    let number = refusal-so a t.records in
-    record {
-      ending = rw number (ends_so n bs first (store m r ts) t kept.at o kept.going k left);
-      text = rw number (prints-so n bs first (store m r ts) t kept.at o kept.going k left);
-      short = text-so n bs first (store m r ts) t kept.at o kept.going k left (refusal-low a t.records) kept.short;
-      few = next-record kept.going kept.short;
-    }
+-- the replay has come to the reader's place
+pub record Kept (bs : List ℕ) (n : ℕ) (first : List ℕ) (m : Memory) (o : Buffer) (t : Totals) (r : Recovery) (ts : List Tx) (d : Reader) : Type 0 where
+  pub same : d.trace.now ≡ bs
+  pub going : Going n bs first (store m r ts) t d.at o
+  pub short : length bs ≤ 65536
+
+pub starts : {bs first : List ℕ} {m : Memory} {place : ℕ} {t : Totals} {rows : List Tx} (d : Reader) → d.trace.now ≡ bs → d.at ≡ 3
+    → Ready bs m place → t ≡ totals 0 0 0 0 0 → rows ≡ replicate 64 (tx 0 Fresh) → Kept bs (size m) first m (buffer first place) t Idle rows d
+starts {bs} {first} {m} d same three ready none blank = record {
+  same = same;
+  going = rw (none, blank, ready.fresh-store, ready.empty, three) (going_start (size m) bs first ready.some-words ready.few-words ready.header);
+  short = ready.short;
+}
+
+module _ {bs : List ℕ} {n : ℕ} {first : List ℕ} {m : Memory} {o : Buffer} {t : Totals} {r : Recovery} {ts : List Tx} (d : Reader) (kept : Kept bs n first m o t r ts d) (z : Read)
+    (next : (item z.item ≡ found (drop d.at d.trace.now)) × (z.reader ≡ moved_on d)) where
+  here : item z.item ≡ found (drop d.at bs)
+  here = next.0 ∙ ap (λ (xs : List ℕ). found (drop d.at xs)) kept.same
+
+  -- ---- a turn more
+
+  module _ (x : Record) (is : z.item ≡ Some (Ok x)) where
+    stands : found (drop d.at bs) ≡ does x.call x.bytes
+    stands = sym here ∙ ap item is
+
+    inside : (d.at < d.at + x.bytes) × (d.at + x.bytes ≤ length bs)
+    inside = after-inside bs d.at x.call x.bytes stands
+
+    past : z.reader.at ≡ d.at + x.bytes
+    past = ap (λ (y : Reader). y.at) next.1 ∙ ap (place_after d.at) (sym next.0 ∙ ap item is)
+
+    pub asks : Few 65536 t × OneLine x.call
+    asks = (few-records kept.going kept.short, one-line-so bs d.at x.call x.bytes stands)
+
+    module _ {i : ℕ} (slot : i ≡ slot_of x.call) (y : Moved) {m' : Memory} {o' : Buffer}
+        (says : moment_of y m' o' r (record_at ts i) ≡ call_moment m r (record_at ts i) t o x.call) (brief : Brief m r (record_at ts i) t x.call) where
+      -- the replay has come to the place after the record
+      abbrev GoesAt : ℕ → Moment → Type 0
+      GoesAt k w = Going n bs first (store w.mem w.rec (reach w.crashed (set ts k w.tx))) w.totals (d.at + x.bytes) w.text
+
+      goes : GoesAt i (moment_of y m' o' r (record_at ts i))
+      unfolding counted
+      goes =
+          subst (GoesAt i) (sym says)
+          (subst (λ k. GoesAt k (call_moment m r (record_at ts k) t o x.call)) (sym slot)
+          (going_on n bs first (store m r ts) t d.at o kept.going x.call x.bytes stands _ refl (subst (λ k. Brief m r (record_at ts k) t x.call) slot brief)))
+
+      -- with such a recovery and such records; and the bytes that are left are fewer
+      abbrev pub Onward : Recovery → List Tx → Type 0
+      Onward v rows = Kept bs n first m' o' y.totals v rows z.reader × (length bs - z.reader.at < length bs - d.at)
+
+      abbrev put_at : Change → List Tx
+      put_at c = reach (crashed_by c) (set ts i (record_after c (record_at ts i)))
+
+      onward : (c : Change) → y.change ≡ c → (rows : List Tx) → rows ≡ put_at c → Onward (recovery_after c r) rows
+      onward c e rows q = (
+        record { same = ap (λ (y : Reader). y.trace.now) next.1 ∙ kept.same; going = rw (q, ← e, past) goes; short = kept.short },
+        let b = inside in rw past (omega arith),
+      )
+
+      pub nothing-on : y.change ≡ Change.Nothing → Onward r ts
+      nothing-on e = onward Change.Nothing e ts (sym (set-get_or ts i (tx 0 Fresh)))
+
+      pub record-on : {t' : Tx} → y.change ≡ Change.Record t' → Onward r (set ts i t')
+      record-on {t'} e = onward (Change.Record t') e (set ts i t') refl
+
+      pub recovery-on : {r' : Recovery} → y.change ≡ Change.Recovery r' → Onward r' ts
+      recovery-on {r'} e = onward (Change.Recovery r') e ts (sym (set-get_or ts i (tx 0 Fresh)))
+
+      pub crash-on : y.change ≡ Change.Crash → {rows : List Tx} → rows ≡ crash_txs ts → Onward C1 rows
+      crash-on e {rows} q = onward Change.Crash e rows (q ∙ ap crash_txs (sym (set-get_or ts i (tx 0 Fresh))))
+
+  -- ---- after the loop
+
+  ends-with : (a : Option TraceRefusal) → rest_of bs d.at ≡ script [] (refusal_in (stopped_at a t.records))
+      → Through (done n (script_of bs)) (record { refusal = a; totals = t; recovery = r; txs = ts }) m first o
+  ends-with a left =
+      let k = refusal_in (stopped_at a t.records) in
+      let number = refusal-so a t.records in
+      record {
+        ending = rw number (ends_so n bs first (store m r ts) t d.at o kept.going k left);
+        text = rw number (prints-so n bs first (store m r ts) t d.at o kept.going k left);
+        short = text-so n bs first (store m r ts) t d.at o kept.going k left (refusal-low a t.records) kept.short;
+        few = next-record kept.going kept.short;
+      }
+
+  -- the trace's end
+  pub through-end : z.item ≡ None → {a : Option TraceRefusal} → a ≡ None → Through (done n (script_of bs)) (record { refusal = a; totals = t; recovery = r; txs = ts }) m first o
+  through-end is {a} e = rw e (ends-with None (script-end (drop d.at bs) (sym here ∙ ap item is)))
+
+  -- a record that is refused
+  pub through-stop : {k : TraceRefusal} → z.item ≡ Some (Err k) → {a : Option TraceRefusal} → a ≡ Some k
+      → Through (done n (script_of bs)) (record { refusal = a; totals = t; recovery = r; txs = ts }) m first o
+  through-stop {k} is {a} e = rw e (ends-with (Some k) (script-stops (drop d.at bs) (number_of k) (sym here ∙ ap item is)))
 
 -- ---- before and after the loop
 

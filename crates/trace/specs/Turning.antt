@@ -1,5 +1,5 @@
 -- What a turn of the replay's loop leaves, of what it is handed, and what the loop leaves. A reader of the promises can leave this out.
-use Rattle.std.specs.Prelude.{ℕ, ◌+◌, ◌≤◌, ◌<◌, ◌≡◌, Bool, true, false, List, length, replicate, Option, Some, None, Result, Ok, Err}
+use Rattle.std.specs.Prelude.{ℕ, ◌+◌, ◌≤◌, ◌<◌, ◌≡◌, Bool, true, false, List, length, replicate, Option, Some, None}
 use Rattle.dtml.specs.declared.Call.{Call}
 use Rattle.dtml.specs.declared.Phase.TheVariants.{Fresh}
 use Rattle.dtml.specs.declared.Recovery.{Recovery}
@@ -10,7 +10,6 @@ use Rattle.dtml.specs.Store.{Memory, store, fresh, size, tx}
 use Rattle.dtml.specs.Counting.{lines_in}
 use Rattle.dtml.specs.Handed.{carry, crashed}
 use Rattle.reader.specs.declared.TraceRefusal.{TraceRefusal}
-use Rattle.reader.specs.declared.Record.{Record}
 use Rattle.text.specs.Buffer.{Buffer, buffer, puts}
 use Rattle.day.specs.declared.Totals.{Totals}
 use Rattle.day.specs.declared.Stopped.{Stopped}
@@ -96,12 +95,6 @@ pub record Ready (trace : List ℕ) (m : Memory) (at : ℕ) : Type 0 where
   pub header : 3 ≤ length trace
   pub short : length trace ≤ 65536
   pub empty : at ≡ 0
-
--- why what was read is refused, if it is
-abbrev pub refusal_of : Option (Result Record TraceRefusal) → Option TraceRefusal
-refusal_of None = None
-refusal_of (Some (Ok x)) = None
-refusal_of (Some (Err k)) = Some k
 
 -- what stopped it, after so many records
 abbrev pub stopped_at : Option TraceRefusal → ℕ → Option Stopped

@@ -14,7 +14,7 @@ ghost use Rattle.text.specs.Page.{LendsSame, on_page};
 ghost use Rattle.day.specs.Replay.{totals as totals_from, answer_text, done as done_of};
 ghost use Rattle.day.specs.Ends.{Ends};
 ghost use Rattle.day.specs.Counted.{Few};
-ghost use Rattle.trace.specs.Turning.{call_moment, moment_of, OneLine, Brief, Through, Ready, Runs, refusal_of};
+ghost use Rattle.trace.specs.Turning.{call_moment, moment_of, OneLine, Brief, Through, Ready, Runs};
 
 use crate::finish::{ended, stopped_at};
 use day::{Replayed, Totals};
@@ -26,8 +26,8 @@ use marks::Marks;
 use parts::answer::{number, value};
 use parts::memory::Memory;
 use parts::stages::not_idle;
+use reader::TraceRefusal;
 use reader::place::{Reader, next};
-use reader::{Item, TraceRefusal};
 use records::crash_if;
 use system::{Event, call_system};
 use text::Page;
@@ -224,16 +224,6 @@ fn turn(
     }
 }
 
-// Why an item is refused, if it is.
-fn refusal_of(item: Item) -> Option<TraceRefusal>
-    ensures { result ≡ refusal_of item }
-{
-    match item {
-        Some(Err(refusal)) => Some(refusal),
-        _ => None,
-    }
-}
-
 // The loop holds the reader, which moves on past each record.
 fn go_through(trace: &[u8], memory: &mut Memory, page: &mut Page) -> Reached
     requires { Ready trace.now (memory_of memory.old) page.old.at }
@@ -245,12 +235,18 @@ fn go_through(trace: &[u8], memory: &mut Memory, page: &mut Page) -> Reached
     let mut totals = Totals::NONE;
     let mut recovery = Recovery::Idle;
     let mut rows = blank();
-    let mut read = next(Reader { trace, at: 3 });
-    while let Some(Ok(record)) = read.item {
+    let mut reader = Reader { trace, at: 3 };
+    let refusal = loop {
+        let read = next(reader);
+        let record = match read.item {
+            Some(Ok(record)) => record,
+            Some(Err(refusal)) => break Some(refusal),
+            None => break None,
+        };
         let i = slot(record.call);
         let moved = turn(memory, page, totals, recovery, rows[i], record.call);
         totals = moved.totals;
-        read = next(read.reader);
+        reader = read.reader;
         match moved.change {
             Change::Nothing => {}
             Change::Record { tx } => rows[i] = tx,
@@ -260,9 +256,9 @@ fn go_through(trace: &[u8], memory: &mut Memory, page: &mut Page) -> Reached
                 crash_if(&mut rows, true);
             }
         }
-    }
+    };
     Reached {
-        refusal: refusal_of(read.item),
+        refusal,
         totals,
         recovery,
         txs: rows,
