@@ -1,100 +1,40 @@
--- The host's loop over plain values: after i calls the rows, what is held and the text are those of the definitions.
+-- The host's loop over plain values: after i calls the store and the text are those of the definitions; a call's outcome is the definition's since its store and what
+-- is asked are. The text ends within its buffer, since a byte is put only where there is room.
 use Prim.Native.Nat.{ℕ, zero, suc, ◌+◌, ◌≤◌}
 use mathlib.Core.Path.{◌≡◌, refl, sym, ap, ◌∙◌}
 use native.Mathlib.Numerals.{add-one}
 use native.Mathlib.Omega.{arith}
 use mathlib.Core.Bool.{Bool, true, false}
 use mathlib.Core.List.{List, [], ◌∷◌}
-use lib.ListN.{length, set, replicate, length-set}
+use lib.ListN.{length, set, length-set}
 use lib.Seq.{length-take-le}
 use lib.Dec.{ltb}
 use borrow.Author.Tests.{ltb-true}
 use Rattle.io.specs.Counts.{IsPrefixLen}
 use Rattle.bits.specs.Marks.{pick}
 use Rattle.dtml.specs.declared.Call.{Call}
-use Rattle.dtml.specs.declared.Phase.TheVariants.{Fresh}
-use Rattle.dtml.specs.declared.Tx.{Tx}
-use Rattle.dtml.specs.Table.{Reply, reply}
-use Rattle.dtml.specs.Store.{tx, fresh}
+use Rattle.dtml.specs.Store.{Store}
 use Rattle.dtml.specs.Asked.{Outcome}
-use Rattle.dtml.specs.Checks.{unfit_rows}
-use Rattle.dtml.specs.Calls.{call, make_fresh}
-use Rattle.machine.specs.declared.Held.{Held}
-use Rattle.machine.specs.declared.After.{After}
-use Rattle.machine.specs.Given.{store_of}
-use Rattle.machine.proofs.Caller.{Rows, these-rows, store-of, left_as}
+use Rattle.dtml.specs.Calls.{call}
 use Rattle.text.specs.Buffer.{Buffer, buffer, put, puts}
 use Rattle.join.specs.Join.{asked_at, told, store_at, outcome_at, text_at}
 
-abbrev pub rows_at : ℕ → Rows
-rows_at i = these-rows (store_at i).mem.vol (store_at i).mem.pers (store_at i).mem.old (store_at i).txs
+-- one call more: what was asked, of which store, and what that left
+module _ (i : ℕ) (asked : Call) (s : Store) (o : Outcome) (is : asked ≡ asked_at i) (before : s ≡ store_at i) (e : o ≡ call s asked) where
+  went : o ≡ outcome_at i
+  went = e ∙ ap (λ (x : Store). call x asked) before ∙ ap (call (store_at i)) is
 
-abbrev pub held_at : ℕ → Held
-held_at i = record { marks = (store_at i).mem.marks; glb = (store_at i).mem.glb; recovery = (store_at i).rec }
-
--- what a call left is the store after i calls
-pub record Left (i : ℕ) (z : Rows) (h : Held) : Type 0 where
-  pub vol : z.vol ≡ (store_at i).mem.vol
-  pub pers : z.pers ≡ (store_at i).mem.pers
-  pub old : z.old ≡ (store_at i).mem.old
-  pub txs : z.txs ≡ (store_at i).txs
-  pub held : h ≡ held_at i
-
-left_so : (i : ℕ) (z : Rows) (a : After) (o : Outcome) → left_as z a ≡ o → o.store ≡ store_at i → Left i z a.held
-left_so i z a o e f =
-    let g = ap (λ (x : Outcome). x.store) e ∙ f in
-    record {
-      vol = ap (λ s. s.mem.vol) g;
-      pers = ap (λ s. s.mem.pers) g;
-      old = ap (λ s. s.mem.old) g;
-      txs = ap (λ s. s.txs) g;
-      held = ap (λ s. record { marks = s.mem.marks; glb = s.mem.glb; recovery = s.rec }) g;
-    }
-
--- the rows, with what is held, are the store after i calls
-pub same-store : (i : ℕ) (z : Rows) (h : Held) → Left i z h → store-of z h ≡ store-of (rows_at i) (held_at i)
-same-store i z h l =
-    ap (λ (v : List ℕ). store_of v z.pers z.old h z.txs) l.vol
-    ∙ ap (λ (p : List ℕ). store_of (rows_at i).vol p z.old h z.txs) l.pers
-    ∙ ap (λ (o : List ℕ). store_of (rows_at i).vol (rows_at i).pers o h z.txs) l.old
-    ∙ ap (λ (ts : List Tx). store_of (rows_at i).vol (rows_at i).pers (rows_at i).old h ts) l.txs
-    ∙ ap (λ (k : Held). store_of (rows_at i).vol (rows_at i).pers (rows_at i).old k (rows_at i).txs) l.held
-
--- the rows at first, with the records
-abbrev pub zeros-and : List Tx → Rows
-zeros-and ts = these-rows (replicate 4 0) (replicate 4 0) (replicate 4 0) ts
-
-pub made : (z : Rows) (a : After) (h : Held) (xs : List Tx) → xs ≡ replicate 64 (tx 0 Fresh)
-    → left_as z a ≡ make_fresh (store-of (zeros-and xs) h) → Left 0 z a.held
-unfolding make_fresh unfit_rows fresh store_at
-made z a h xs x e = left_so 0 z a _ (e ∙ ap (λ (ts : List Tx). make_fresh (store-of (zeros-and ts) h)) x) refl
-
-pub started : (out : List ℕ) → buffer out 0 ≡ text_at out 0
-unfolding text_at
-started out = refl
-
--- one call more
-module _ (i : ℕ) (z : Rows) (a : After) (asked : Call) (is : asked ≡ asked_at i)
-    (e : left_as z a ≡ call (store-of (rows_at i) (held_at i)) asked) where
-  went : left_as z a ≡ outcome_at i
-  went = e ∙ ap (call (store_at i)) is
-
-  pub called : Left (i + 1) z a.held
+  pub called : o.store ≡ store_at (i + 1)
   unfolding store_at
-  called = left_so (i + 1) z a (outcome_at i) went (ap store_at (sym (add-one i)))
+  called = ap (λ (x : Outcome). x.store) went ∙ ap store_at (sym (add-one i))
 
-  answers : reply a.answer ≡ (outcome_at i).reply
-  answers = ap (λ (x : Outcome). x.reply) went
-
-  pub wrote : (out old bytes pers : List ℕ) (place at : ℕ) → buffer old place ≡ text_at out i → pers ≡ (store_at (i + 1)).mem.pers
-      → buffer bytes at ≡ puts (buffer old place) (told asked (reply a.answer) pers) → buffer bytes at ≡ text_at out (i + 1)
-  unfolding store_at text_at
-  wrote out old bytes pers place at before kept f =
+  pub wrote : (out : List ℕ) (p q : Buffer) → p ≡ text_at out i → q ≡ puts p (told asked o.reply o.store.mem.pers) → q ≡ text_at out (i + 1)
+  unfolding text_at
+  wrote out p q so f =
       f
-      ∙ ap (λ (o : Buffer). puts o (told asked (reply a.answer) pers)) before
-      ∙ ap (λ (p : List ℕ). puts (text_at out i) (told asked (reply a.answer) p)) (kept ∙ ap (λ (k : ℕ). (store_at k).mem.pers) (add-one i))
-      ∙ ap (λ (x : Call). puts (text_at out i) (told x (reply a.answer) (rows_at (suc i)).pers)) is
-      ∙ ap (λ (r : Reply). puts (text_at out i) (told (asked_at i) r (rows_at (suc i)).pers)) answers
+      ∙ ap (λ (x : Buffer). puts x (told asked o.reply o.store.mem.pers)) so
+      ∙ ap (λ (c : Call). puts (text_at out i) (told c o.reply o.store.mem.pers)) is
+      ∙ ap (λ (x : Outcome). puts (text_at out i) (told (asked_at i) x.reply x.store.mem.pers)) went
       ∙ ap (text_at out) (sym (add-one i))
 
 -- ---- the text ends within the buffer

@@ -8,25 +8,24 @@ mod tell;
 ghost use Rattle.std.specs.Prelude.{◌≡◌, ltb};
 ghost use Rattle.io.specs.Counts.{IsPrefixLen};
 ghost use Rattle.bits.specs.Marks.{pick};
-ghost use Rattle.machine.specs.Working.{fresh_held};
 ghost use Rattle.text.specs.Buffer.{buffer};
 ghost use Rattle.join.specs.Join.{ask_at, asked_at, text_at};
 
 use crate::tell::tell;
-use dtml::{Ask, Call, Recovery, Sys};
-use machine::work::blank;
+use dtml::{Ask, Call, Sys, Tx};
 use machine::{Held, call, make_fresh};
 use std::io;
+use text::Page;
 
 // Transaction 0 is cut by the power failure, which is call 17; then comes transaction 1.
 fn owner(i: usize) -> u64
     ensures { result ≡ pick (ltb i 17) 0 1 }
 {
-    let before = i < 17;
-    if before { 0 } else { 1 }
+    if i < 17 { 0 } else { 1 }
 }
 
 // What is asked of a record: an operation is asked for, and then its lines are done one by one.
+#[tactic(auto, unfolding(crate::specs::Join::ask_at))]
 fn ask_at(i: usize) -> Ask
     ensures { result ≡ ask_at i }
 {
@@ -44,6 +43,7 @@ fn ask_at(i: usize) -> Ask
 }
 
 // The calls, in order: all but the power failure and recovery are on their owner's record.
+#[tactic(auto, unfolding(crate::specs::Join::asked_at))]
 fn asked_at(i: usize) -> Call
     ensures { result ≡ asked_at i }
 {
@@ -59,18 +59,6 @@ fn asked_at(i: usize) -> Call
     }
 }
 
-// Nothing is held of a store that is not yet made.
-fn nothing_held() -> Held
-    ensures { result ≡ fresh_held }
-{
-    let marks = [0u64; 4];
-    Held {
-        marks,
-        glb: 0,
-        recovery: Recovery::Idle,
-    }
-}
-
 // Owns the store's four rows and lends them to each call; what is held beside them goes in and comes back. Gives the length of the text.
 fn run(out: &mut [u8]) -> usize
     ensures { (buffer out.new result ≡ text_at out.old 46) × IsPrefixLen result out.new }
@@ -78,19 +66,17 @@ fn run(out: &mut [u8]) -> usize
     let mut vol = [0u32; 4];
     let mut pers = [0u32; 4];
     let mut old = [0u32; 4];
-    let mut txs = blank();
-    let fresh = make_fresh(&mut vol, &mut pers, &mut old, &mut txs, nothing_held());
+    let mut txs = [Tx::FRESH; 64];
+    let fresh = make_fresh(&mut vol, &mut pers, &mut old, &mut txs, Held::FRESH);
     let mut held = fresh.held;
-    let mut at: usize = 0;
-    let mut i: usize = 0;
-    while i < 46 {
+    let mut page = Page { bytes: out, at: 0 };
+    for i in 0..46 {
         let asked = asked_at(i);
         let done = call(&mut vol, &mut pers, &mut old, &mut txs, held, asked);
-        at = tell(out, at, asked, done.answer, &pers);
+        tell(&mut page, asked, done.answer, &pers);
         held = done.held;
-        i += 1;
     }
-    at
+    page.at
 }
 
 fn main(rt: HostRuntime) -> io::Result<()> {

@@ -1,123 +1,89 @@
-// What is written of a call, put into a lent buffer.
+// What is written of a call, put on a page.
 ghost use Rattle.std.specs.Prelude.{◌≡◌, ◌++◌, get_or};
 ghost use Rattle.dtml.specs.Table.{reply};
-ghost use Rattle.text.specs.Buffer.{buffer, puts};
+ghost use Rattle.text.specs.Buffer.{puts};
+ghost use Rattle.text.specs.Page.{LendsSame, on_page};
 ghost use Rattle.text.specs.Text.{decimal};
-ghost use Rattle.join.specs.Join.{line, answered, words, is_crash, power_fails, told};
+ghost use Rattle.join.specs.Join.{line, answered, words, power_fails, told};
 
-use dtml::{Answer, Call, Sys};
+use dtml::{Answer, Answered, Call, Sys};
 use parts::answer::{number, value};
-use text::{put_byte, put_decimal};
-
-fn put_bytes(out: &mut [u8], at: usize, text: &[u8]) -> usize
-    ensures { buffer out.new result ≡ puts (buffer out.old at) text.now }
-{
-    let mut place = at;
-    let mut i: usize = 0;
-    while i < text.len() {
-        place = put_byte(out, place, text[i]);
-        i += 1;
-    }
-    place
-}
+use text::Page;
 
 // A name, and the number after it.
-fn put_named(out: &mut [u8], at: usize, name: &[u8], n: u64) -> usize
-    ensures { buffer out.new result ≡ puts (buffer out.old at) (name.now ++ decimal n) }
+#[tactic(auto, using(text::proofs::Laws::putting))]
+fn put_named(page: &mut Page, name: &[u8], n: u64)
+    ensures same { LendsSame page.old page.new }
+    ensures text { on_page page.new ≡ puts (on_page page.old) (name.now ++ decimal n) }
 {
-    let at = put_bytes(out, at, name);
-    put_decimal(out, at, n)
+    page.put_bytes(name);
+    page.put_decimal(n);
 }
 
-fn put_line(out: &mut [u8], at: usize, name: &[u8], n: u64, v: u64) -> usize
-    ensures { buffer out.new result ≡ puts (buffer out.old at) (line name.now n v) }
+// A name, and the answer as number and value.
+#[tactic(auto, using(text::proofs::Laws::putting), unfolding(text::specs::Buffer::puts, crate::specs::Join::line))]
+fn put_line(page: &mut Page, name: &[u8], answer: Answered)
+    ensures same { LendsSame page.old page.new }
+    ensures text { on_page page.new ≡ puts (on_page page.old) (line name.now (reply answer).number (reply answer).value) }
 {
-    let at = put_named(out, at, name, n);
-    let at = put_named(out, at, b" ", v);
-    put_byte(out, at, b'\n')
+    put_named(page, name, number(answer));
+    put_named(page, b" ", value(answer));
+    page.put_byte(b'\n');
 }
 
-fn put_answered(out: &mut [u8], at: usize, n: u64, v: u64) -> usize
-    ensures { buffer out.new result ≡ puts (buffer out.old at) (answered n v) }
+// The line of an operation that is done.
+#[tactic(auto, unfolding(text::specs::Buffer::puts, crate::specs::Join::answered))]
+fn put_answered(page: &mut Page, answer: Answered)
+    ensures same { LendsSame page.old page.new }
+    ensures text { on_page page.new ≡ puts (on_page page.old) (answered (reply answer).number (reply answer).value) }
 {
-    let begun = n == 1;
-    if begun {
-        return put_line(out, at, b"begin: ", n, v);
+    match answer {
+        Ok(Answer::Begun) => put_line(page, b"begin: ", answer),
+        Ok(Answer::Written) => put_line(page, b"write: ", answer),
+        Ok(Answer::Committed) => put_line(page, b"commit: ", answer),
+        Ok(Answer::Recovered { .. }) => put_line(page, b"recovery: ", answer),
+        _ => {}
     }
-    let written = n == 3;
-    if written {
-        return put_line(out, at, b"write: ", n, v);
-    }
-    let committed = n == 4;
-    if committed {
-        return put_line(out, at, b"commit: ", n, v);
-    }
-    let recovered = n == 6;
-    if recovered {
-        return put_line(out, at, b"recovery: ", n, v);
-    }
-    at
-}
-
-fn wide(x: u32) -> u64
-    ensures { result ≡ x }
-{
-    x as u64
 }
 
 // A word of a row; past its end, 0.
 fn word(row: &[u32], i: usize) -> u64
     ensures { result ≡ get_or row.now i 0 }
 {
-    if i < row.len() {
-        return wide(row[i]);
-    }
-    0
+    u64::from(row.get(i).copied().unwrap_or(0))
 }
 
-fn put_words(out: &mut [u8], at: usize, pers: &[u32]) -> usize
-    ensures { buffer out.new result ≡ puts (buffer out.old at) (words pers.now) }
+#[tactic(auto, using(text::proofs::Laws::putting), unfolding(text::specs::Buffer::puts, crate::specs::Join::words))]
+fn put_words(page: &mut Page, pers: &[u32])
+    ensures same { LendsSame page.old page.new }
+    ensures text { on_page page.new ≡ puts (on_page page.old) (words pers.now) }
 {
-    let at = put_named(out, at, b"persistent: link ", word(pers, 0));
-    let at = put_named(out, at, b", history ", word(pers, 1));
-    let at = put_named(out, at, b", area ", word(pers, 2));
-    put_byte(out, at, b'\n')
-}
-
-fn is_crash(sys: Sys) -> bool
-    ensures { result ≡ is_crash sys }
-{
-    match sys {
-        Sys::Flush { word: _ } => false,
-        Sys::Crash => true,
-        Sys::Recover => false,
-        Sys::RecoverUpTo { allowance: _ } => false,
-    }
+    put_named(page, b"persistent: link ", word(pers, 0));
+    put_named(page, b", history ", word(pers, 1));
+    put_named(page, b", area ", word(pers, 2));
+    page.put_byte(b'\n');
 }
 
 fn power_fails(asked: Call) -> bool
     ensures { result ≡ power_fails asked }
 {
-    match asked {
-        Call::On { id: _, ask: _ } => false,
-        Call::Of { sys } => is_crash(sys),
-    }
+    matches!(asked, Call::Of { sys: Sys::Crash })
 }
 
-pub(crate) fn tell(out: &mut [u8], at: usize, asked: Call, answer: Answer, pers: &[u32]) -> usize
-    ensures { buffer out.new result ≡ puts (buffer out.old at) (told asked (reply answer) pers.now) }
+// A call's line, and the persistent words where no transaction goes on: at a crash, and after a commit and recovery.
+#[tactic(auto, using(text::proofs::Laws::putting), unfolding(crate::specs::Join::tells))]
+pub(crate) fn tell(page: &mut Page, asked: Call, answer: Answered, pers: &[u32])
+    ensures same { LendsSame page.old page.new }
+    ensures text { on_page page.new ≡ puts (on_page page.old) (told asked (reply answer) pers.now) }
 {
-    let n = number(answer);
-    let v = value(answer);
-    let crashed = power_fails(asked);
-    if crashed {
-        let at = put_words(out, at, pers);
-        return put_line(out, at, b"the power fails: ", n, v);
+    if power_fails(asked) {
+        put_words(page, pers);
+        put_line(page, b"the power fails: ", answer);
+        return;
     }
-    let at = put_answered(out, at, n, v);
-    let first = n < 4;
-    if first {
-        return at;
+    put_answered(page, answer);
+    match answer {
+        Ok(Answer::Taken { .. } | Answer::Begun | Answer::Read { .. } | Answer::Written) => {}
+        _ => put_words(page, pers),
     }
-    put_words(out, at, pers)
 }

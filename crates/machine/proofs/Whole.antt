@@ -82,7 +82,7 @@ three false true c = refl
 three false false true = refl
 three false false false = refl
 
-unfit-any : (s : Store) (c : Call) → unfit s ≡ true → call s c ≡ refused s 9
+pub unfit-any : (s : Store) (c : Call) → unfit s ≡ true → call s c ≡ refused s 9
 unfit-any s (on t a) e = unfit-call s t a e
 unfit-any s (sys k) e = unfit-system s k e
 

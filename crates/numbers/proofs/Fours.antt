@@ -1,24 +1,25 @@
 -- The row of records, four numbers at a time: reading one, putting one back, testing and crashing each, are what they are on the records that the row spells.
-use Prim.Native.Nat.{ℕ, zero, suc, ◌+◌, ◌*◌, ◌≤◌, ◌<◌}
+-- Each law is by recursion on the row, which `fours` does once for all.
+use Prim.Native.Nat.{ℕ, zero, suc, ◌+◌, ◌*◌, ◌/◌, ◌≤◌, ◌<◌}
 use native.Mathlib.Omega.{arith}
-use native.Mathlib.Numerals.{towards_suc, add-four}
-use borrow.Author.Tests.{eqb-true, eq-eqb, not-true, not-false}
+use native.Mathlib.Numerals.{add-one}
+use borrow.Author.Tests.{eqb-true, eq-eqb}
 use mathlib.Core.Path.{◌≡◌, refl, sym, ap, ◌∙◌}
-use mathlib.Core.Bool.{Bool, true, false, not}
+use mathlib.Core.Bool.{Bool, true, false, ◌&&◌}
 use mathlib.Core.List.{List, [], ◌∷◌, ◌++◌}
-use lib.ListN.{length, set, drop, drop_of_length-le}
-use lib.Seq.{sets, drop-cons}
+use lib.ListN.{length, get_or, set, take, drop, drop_of_length-le}
+use lib.Seq.{drop-cons}
 use lib.Dec.{eqb}
+use Rattle.std.specs.Simd.{first_chunks}
+use lib.Pointwise.{pointwise}
 use Rattle.bits.specs.Marks.{pick}
 use Rattle.dtml.specs.declared.Tx.{Tx}
-use Rattle.dtml.specs.declared.Phase.{Phase}
-use Rattle.dtml.specs.Store.{tx, record_at}
+use Rattle.dtml.specs.Store.{record_at}
 use Rattle.dtml.specs.Lines.{crash_tx, crash_txs}
 use Rattle.dtml.specs.Checks.{unfit_tx, unfit_txs}
-use Rattle.spelling.specs.declared.Spelt.{Spelt}
-use Rattle.spelling.specs.Spelling.{spelt, read_phase, spell_phase, same_spelling}
-use Rattle.numbers.specs.Numbers.{at, spell_tx, spell_txs, read_tx, read_txs, same}
-use Rattle.numbers.specs.Ways.{spelt_at, tx_at, put_tx, unfit_spelt, unfit_from, crash_numbers}
+use Rattle.spelling.specs.Spelling.{spell_phase}
+use Rattle.numbers.specs.Numbers.{spell_tx, spell_txs, read_tx, read_txs, same}
+use Rattle.numbers.specs.Ways.{tx_of, put_tx, unfit_numbers, unfit_records, crash_numbers}
 
 -- ---- the same numbers
 
@@ -40,150 +41,137 @@ unfolding same
 same_self [] = refl
 same_self (x ∷ xs) = rw (eq-eqb x x refl) (same_self xs)
 
--- ---- one record
+and-pick : (b c : Bool) → (b && c) ≡ pick b c false
+and-pick true c = refl
+and-pick false c = refl
 
--- the record whose numbers start at j, with the places as the recursion has them
-abbrev here : List ℕ → ℕ → Tx
-here xs j = read_tx (at xs j) (at xs (suc j)) (at xs (suc (suc j))) (at xs (suc (suc (suc j))))
+-- what the code's test of two arrays gives
+pub same_is : (xs ys : List ℕ) → pointwise eqb xs ys ≡ same xs ys
+unfolding same
+same_is [] [] = refl
+same_is [] (y ∷ ys) = refl
+same_is (x ∷ xs) [] = refl
+same_is (x ∷ xs) (y ∷ ys) = and-pick (eqb x y) (pointwise eqb xs ys) ∙ ap (λ b. pick (eqb x y) b false) (same_is xs ys)
 
-here-is : (xs : List ℕ) (j : ℕ) → tx_at xs j ≡ here xs j
-here-is xs j = simp towards_suc
+-- ---- a row of so many records
 
-put_is : (xs : List ℕ) (j : ℕ) (t : Tx) → put_tx xs j t ≡ sets xs j (spell_tx t)
-put_is xs j t = simp towards_suc
-
--- from record i on
-four-on : (i j : ℕ) → j ≡ 4 * suc i → j ≡ suc (suc (suc (suc (4 * i))))
-four-on i j e = omega arith
-
-here-read : (i j : ℕ) (xs : List ℕ) → j ≡ 4 * i → j + 4 ≤ length xs → here xs j ≡ record_at (read_txs xs) i
-unfolding read_txs
-here-read i j [] e h = absurd (let z : j + 4 ≤ 0 = h in omega arith)
-here-read i j (a ∷ []) e h = absurd (let z : j + 4 ≤ 1 = h in omega arith)
-here-read i j (a ∷ b ∷ []) e h = absurd (let z : j + 4 ≤ 2 = h in omega arith)
-here-read i j (a ∷ b ∷ c ∷ []) e h = absurd (let z : j + 4 ≤ 3 = h in omega arith)
-here-read zero j (a ∷ b ∷ c ∷ d ∷ xs) e h = rw e
-here-read (suc i) j (a ∷ b ∷ c ∷ d ∷ xs) e h = rw (four-on i j e) (here-read i (4 * i) xs refl (omega arith))
-
-pub tx-read : (i : ℕ) (xs : List ℕ) → 4 * i + 4 ≤ length xs → tx_at xs (4 * i) ≡ record_at (read_txs xs) i
-tx-read i xs h = here-is xs (4 * i) ∙ here-read i (4 * i) xs refl h
-
-sets-set : (i j : ℕ) (ts : List Tx) (t : Tx) → j ≡ 4 * i → i < length ts → sets (spell_txs ts) j (spell_tx t) ≡ spell_txs (set ts i t)
-unfolding spell_txs
-sets-set i j [] t e h = absurd (let z : i < 0 = h in omega arith)
-sets-set zero j (t₀ ∷ ts) t e h = rw e
-sets-set (suc i) j (t₀ ∷ ts) t e h = rw (four-on i j e) (ap (λ xs. spell_tx t₀ ++ xs) (sets-set i (4 * i) ts t refl (omega arith)))
-
-pub tx-put : (i : ℕ) (ts : List Tx) (t : Tx) → i < length ts → put_tx (spell_txs ts) (4 * i) t ≡ spell_txs (set ts i t)
-tx-put i ts t h = put_is (spell_txs ts) (4 * i) t ∙ sets-set i (4 * i) ts t refl h
+module _ (P : ℕ → List ℕ → Type 0) (none : P 0 []) (more : (k a b c d : ℕ) (xs : List ℕ) → P k xs → P (suc k) (a ∷ b ∷ c ∷ d ∷ xs)) where
+  pub fours : (k : ℕ) (xs : List ℕ) → length xs ≡ 4 * k → P k xs
+  fours zero [] e = none
+  fours (suc k) [] e = absurd (let z : 0 ≡ 4 * suc k = e in omega arith)
+  fours k (a ∷ []) e = absurd (let z : 1 ≡ 4 * k = e in omega arith)
+  fours k (a ∷ b ∷ []) e = absurd (let z : 2 ≡ 4 * k = e in omega arith)
+  fours k (a ∷ b ∷ c ∷ []) e = absurd (let z : 3 ≡ 4 * k = e in omega arith)
+  fours zero (a ∷ b ∷ c ∷ d ∷ xs) e = absurd (let z : suc (suc (suc (suc (length xs)))) ≡ 0 = e in omega arith)
+  fours (suc k) (a ∷ b ∷ c ∷ d ∷ xs) e = more k a b c d xs (fours k xs (omega arith))
 
 pub read_length : (n : ℕ) (xs : List ℕ) → length xs ≡ 4 * n → length (read_txs xs) ≡ n
 unfolding read_txs
-read_length zero [] e = refl
-read_length (suc n) [] e = absurd (let z : 0 ≡ 4 * suc n = e in omega arith)
-read_length n (a ∷ []) e = absurd (let z : 1 ≡ 4 * n = e in omega arith)
-read_length n (a ∷ b ∷ []) e = absurd (let z : 2 ≡ 4 * n = e in omega arith)
-read_length n (a ∷ b ∷ c ∷ []) e = absurd (let z : 3 ≡ 4 * n = e in omega arith)
-read_length zero (a ∷ b ∷ c ∷ d ∷ xs) e = absurd (let z : suc (suc (suc (suc (length xs)))) ≡ 0 = e in omega arith)
-read_length (suc n) (a ∷ b ∷ c ∷ d ∷ xs) e = ap suc (read_length n xs (omega arith))
+read_length = fours (λ n xs. length (read_txs xs) ≡ n) refl (λ k a b c d xs h. ap suc h)
 
--- the test of one record
-module _ (n loc : ℕ) (s : Spelt) {p : Phase} {a : Spelt} {b : Bool} (read : p ≡ read_phase s) (spelled : a ≡ spell_phase p)
-    (compared : b ≡ same_spelling a s) where
-  again : same_spelling (spell_phase (read_phase s)) s ≡ b
-  again = ap (λ q. same_spelling (spell_phase q) s) (sym read) ∙ ap (λ y. same_spelling y s) (sym spelled) ∙ sym compared
+-- ---- one record
 
-  pub misspelt-unfit : not b ≡ true → true ≡ unfit_spelt n loc s
-  unfolding unfit_spelt
-  misspelt-unfit e = rw (again ∙ not-true b e)
+read-four : (e : List ℕ) (k : ℕ) (xs : List ℕ) → length xs ≡ 4 * k → (i : ℕ) → i < k → tx_of (get_or (first_chunks 4 k xs) i e) ≡ record_at (read_txs xs) i
+unfolding read_txs
+read-four e = fours (λ k xs. (i : ℕ) → i < k → tx_of (get_or (first_chunks 4 k xs) i e) ≡ record_at (read_txs xs) i) (λ i h. absurd (omega arith)) go
+  where
+    go : (k a b c d : ℕ) (xs : List ℕ) → ((i : ℕ) → i < k → tx_of (get_or (first_chunks 4 k xs) i e) ≡ record_at (read_txs xs) i)
+        → (i : ℕ) → i < suc k → tx_of (get_or (first_chunks 4 (suc k) (a ∷ b ∷ c ∷ d ∷ xs)) i e) ≡ record_at (read_txs (a ∷ b ∷ c ∷ d ∷ xs)) i
+    go k a b c d xs h zero l = refl
+    go k a b c d xs h (suc i) l = h i (omega arith)
 
-  pub spelt-tells : {u : Bool} → not b ≡ false → u ≡ unfit_tx n (tx loc p) → u ≡ unfit_spelt n loc s
-  unfolding unfit_spelt
-  spelt-tells e t = t ∙ ap (λ q. unfit_tx n (tx loc q)) read ∙ rw (again ∙ not-false b e)
+-- what the code reads record i from
+pub read_is : (xs : List ℕ) (i : ℕ) (e : List ℕ) → length xs ≡ 256 → i < 64 → tx_of (get_or (first_chunks 4 (length xs / 4) xs) i e) ≡ record_at (read_txs xs) i
+read_is xs i e long h = rw long (read-four e 64 xs long i h)
+
+four-on : (i : ℕ) → 4 * suc i ≡ suc (suc (suc (suc (4 * i))))
+four-on i = omega arith
+
+put-first : (a b c d : ℕ) (xs : List ℕ) (i : ℕ) (t : Tx) → put_tx (a ∷ b ∷ c ∷ d ∷ xs) (suc i) t ≡ a ∷ b ∷ c ∷ d ∷ put_tx xs i t
+put-first a b c d xs i t = rw (four-on i)
+
+pub tx-put : (ts : List Tx) (i : ℕ) (t : Tx) → i < length ts → put_tx (spell_txs ts) i t ≡ spell_txs (set ts i t)
+unfolding spell_txs
+tx-put [] i t h = absurd (let z : i < 0 = h in omega arith)
+tx-put (t₀ ∷ ts) zero t h = refl
+tx-put (t₀ ∷ ts) (suc i) t h = put-first _ _ _ _ (spell_txs ts) i t ∙ ap (λ xs. spell_tx t₀ ++ xs) (tx-put ts i t (omega arith))
 
 -- ---- the test of every record
 
-drop-four : (xs : List ℕ) (i : ℕ) → i + 4 ≤ length xs
-    → drop i xs ≡ at xs i ∷ at xs (i + 1) ∷ at xs (i + 2) ∷ at xs (i + 3) ∷ drop (i + 4) xs
-drop-four xs i h =
-    simp towards_suc
-    (drop-cons xs i 0 (omega arith)
-    ∙ ap (λ ys. at xs i ∷ ys) (drop-cons xs (suc i) 0 (omega arith))
-    ∙ ap (λ ys. at xs i ∷ at xs (suc i) ∷ ys) (drop-cons xs (suc (suc i)) 0 (omega arith))
-    ∙ ap (λ ys. at xs i ∷ at xs (suc i) ∷ at xs (suc (suc i)) ∷ ys) (drop-cons xs (suc (suc (suc i))) 0 (omega arith)))
+-- some of these fours spell no record, or an unfit one
+abbrev pub unfit_fours : ℕ → List (List ℕ) → Bool
+unfit_fours n [] = false
+unfit_fours n (r ∷ rs) = pick (unfit_numbers n r) true (unfit_fours n rs)
 
-unfit-next : (n : ℕ) (xs : List ℕ) (i : ℕ) → i + 4 ≤ length xs
-    → unfit_from n (drop i xs) ≡ pick (unfit_spelt n (at xs i) (spelt_at xs i)) true (unfit_from n (drop (i + 4) xs))
-unfolding unfit_from
-unfit-next n xs i h = ap (unfit_from n) (drop-four xs i h)
+pub fours-next : (n : ℕ) (rs : List (List ℕ)) (i : ℕ) (e : List ℕ) → i < length rs
+    → unfit_fours n (drop i rs) ≡ pick (unfit_numbers n (get_or rs i e)) true (unfit_fours n (drop (i + 1) rs))
+fours-next n rs i e h = rw (drop-cons rs i e h, add-one i) refl
 
-module _ (n : ℕ) (xs : List ℕ) (i : ℕ) (h : i + 4 ≤ length xs) {s : Spelt} {b : Bool} (read : s ≡ spelt_at xs i) (tested : b ≡ unfit_spelt n (at xs i) s) where
-  the-test : unfit_spelt n (at xs i) (spelt_at xs i) ≡ b
-  the-test = ap (unfit_spelt n (at xs i)) (sym read) ∙ sym tested
-
-  pub unfit-here : b ≡ true → unfit_from n (drop i xs) ≡ true
-  unfit-here e = unfit-next n xs i h ∙ rw (the-test ∙ e)
-
-  pub unfit-on : b ≡ false → unfit_from n (drop (i + 4) xs) ≡ unfit_from n (drop i xs)
-  unfit-on e = sym (unfit-next n xs i h ∙ rw (the-test ∙ e))
-
-pub unfit-end : (n : ℕ) (xs : List ℕ) (i : ℕ) → length xs ≤ i → unfit_from n (drop i xs) ≡ false
-unfolding unfit_from
-unfit-end n xs i h = rw (drop_of_length-le xs {i = i} h)
+pub fours-end : (n : ℕ) (rs : List (List ℕ)) (i : ℕ) → length rs ≤ i → unfit_fours n (drop i rs) ≡ false
+fours-end n rs i h = ap (unfit_fours n) (drop_of_length-le rs {i = i} h)
 
 -- the tests of one record before those of the others, or each test of all records after the other
-in-turn : (p q r rest u us : Bool)
-    → pick (pick (pick p (pick q r false) false) u true) true (pick rest us true)
-    ≡ pick (pick p (pick q (pick r rest false) false) false) (pick u true us) true
-in-turn false q r rest u us = refl
-in-turn true false r rest u us = refl
-in-turn true true false rest u us = refl
-in-turn true true true false true us = refl
-in-turn true true true true true us = refl
-in-turn true true true false false us = refl
-in-turn true true true true false us = refl
+in-turn : (p q r s rest u us : Bool)
+    → pick (pick (pick p (pick q (pick r (pick s true false) false) false) false) u true) true (pick rest us true)
+    ≡ pick (pick p (pick q (pick r (pick s rest false) false) false) false) (pick u true us) true
+in-turn false q r s rest u us = refl
+in-turn true false r s rest u us = refl
+in-turn true true false s rest u us = refl
+in-turn true true true false rest u us = refl
+in-turn true true true true true true us = refl
+in-turn true true true true false true us = refl
+in-turn true true true true true false us = refl
+in-turn true true true true false false us = refl
 
--- an unfit row of numbers spells no records, or an unfit one
-pub unfit-is : (n : ℕ) (xs : List ℕ) → unfit_from n xs ≡ pick (same (spell_txs (read_txs xs)) xs) (unfit_txs n (read_txs xs)) true
-unfolding unfit_from same spell_txs read_txs unfit_txs unfit_spelt same_spelling
-unfit-is n [] = refl
-unfit-is n (a ∷ []) = refl
-unfit-is n (a ∷ b ∷ []) = refl
-unfit-is n (a ∷ b ∷ c ∷ []) = refl
-unfit-is n (a ∷ b ∷ c ∷ d ∷ xs) =
-    let p = read_phase (spelt b c d) in
-    rw (unfit-is n xs, eq-eqb a a refl)
-    (in-turn (eqb (spell_phase p).number b) (eqb (spell_phase p).word c) (eqb (spell_phase p).value d) (same (spell_txs (read_txs xs)) xs)
-    (unfit_tx n (tx a p)) (unfit_txs n (read_txs xs)))
+fours-are : (n k : ℕ) (xs : List ℕ) → length xs ≡ 4 * k → unfit_fours n (first_chunks 4 k xs) ≡ unfit_records n xs
+unfolding unfit_numbers unfit_records same spell_txs read_txs unfit_txs
+fours-are n = fours (λ k xs. unfit_fours n (first_chunks 4 k xs) ≡ unfit_records n xs) refl go
+  where
+    go : (k a b c d : ℕ) (xs : List ℕ) → unfit_fours n (first_chunks 4 k xs) ≡ unfit_records n xs
+        → unfit_fours n (first_chunks 4 (suc k) (a ∷ b ∷ c ∷ d ∷ xs)) ≡ unfit_records n (a ∷ b ∷ c ∷ d ∷ xs)
+    go k a b c d xs h =
+        let t = read_tx a b c d in
+        let p = spell_phase t.phase in
+        rw h
+        (in-turn (eqb a a) (eqb p.number b) (eqb p.word c) (eqb p.value d) (same (spell_txs (read_txs xs)) xs) (unfit_tx n t) (unfit_txs n (read_txs xs)))
+
+pub fours-whole : (n : ℕ) (xs : List ℕ) → length xs ≡ 256 → unfit_fours n (first_chunks 4 (length xs / 4) xs) ≡ unfit_records n xs
+fours-whole n xs long = rw long (fours-are n 64 xs long)
+
+-- the loop over them: a four spells none that is fit, or the rest does so; after the last all are looked at
+pub ruleset looking = (fours-next, fours-end, fours-whole)
+
+pub found-unfit : (n : ℕ) (xs : List ℕ) → length xs ≡ 256 → {rs : List (List ℕ)} → rs ≡ first_chunks 4 (length xs / 4) xs → (i : ℕ) (e : List ℕ) → i < length rs
+    → unfit_fours n (drop i rs) ≡ unfit_fours n rs → {b : Bool} → b ≡ unfit_numbers n (get_or rs i e) → b ≡ true → true ≡ unfit_records n xs
+found-unfit n xs long {rs} front i e h same tested b =
+    sym (sym (fours-whole n xs long) ∙ ap (unfit_fours n) (sym front) ∙ sym same ∙ fours-next n rs i e h ∙ rw (sym tested ∙ b))
 
 -- ---- the crash of every record
 
--- the records before place i are crashed, the others are still to be
+-- the first i records are crashed, the others are still to be
 abbrev pub crashing : ℕ → List ℕ → List ℕ
 crashing zero xs = crash_numbers xs
-crashing (suc i) [] = []
-crashing (suc i) (x ∷ xs) = x ∷ crashing i xs
+crashing (suc i) xs = take 4 xs ++ crashing i (drop 4 xs)
 
-crash-here : (i : ℕ) (xs : List ℕ) → i + 4 ≤ length xs
-    → crashing (suc (suc (suc (suc i)))) (sets xs i (spell_tx (crash_tx (here xs i)))) ≡ crashing i xs
+crash-next : (k : ℕ) (xs : List ℕ) → length xs ≡ 4 * k → (i : ℕ) → i < k → crashing (suc i) (put_tx xs i (crash_tx (record_at (read_txs xs) i))) ≡ crashing i xs
 unfolding crash_numbers crash_txs read_txs spell_txs
-crash-here i [] h = absurd (let z : i + 4 ≤ 0 = h in omega arith)
-crash-here zero (a ∷ []) h = absurd (let z : 4 ≤ 1 = h in omega arith)
-crash-here zero (a ∷ b ∷ []) h = absurd (let z : 4 ≤ 2 = h in omega arith)
-crash-here zero (a ∷ b ∷ c ∷ []) h = absurd (let z : 4 ≤ 3 = h in omega arith)
-crash-here zero (a ∷ b ∷ c ∷ d ∷ xs) h = refl
-crash-here (suc i) (x ∷ xs) h = ap (λ ys. x ∷ ys) (crash-here i xs (omega arith))
+crash-next = fours (λ k xs. (i : ℕ) → i < k → crashing (suc i) (put_tx xs i (crash_tx (record_at (read_txs xs) i))) ≡ crashing i xs) (λ i h. absurd (omega arith)) go
+  where
+    go : (k a b c d : ℕ) (xs : List ℕ) → ((i : ℕ) → i < k → crashing (suc i) (put_tx xs i (crash_tx (record_at (read_txs xs) i))) ≡ crashing i xs)
+        → (i : ℕ) → i < suc k
+        → crashing (suc i) (put_tx (a ∷ b ∷ c ∷ d ∷ xs) i (crash_tx (record_at (read_txs (a ∷ b ∷ c ∷ d ∷ xs)) i))) ≡ crashing i (a ∷ b ∷ c ∷ d ∷ xs)
+    go k a b c d xs h zero l = refl
+    go k a b c d xs h (suc i) l =
+        ap (crashing (suc (suc i))) (put-first a b c d xs i (crash_tx (record_at (read_txs xs) i))) ∙ ap (λ ys. a ∷ b ∷ c ∷ d ∷ ys) (h i (omega arith))
 
-pub crash-next : (i : ℕ) (xs : List ℕ) {t t' : Tx} {xs' : List ℕ} → i + 4 ≤ length xs → t ≡ tx_at xs i → t' ≡ crash_tx t → xs' ≡ put_tx xs i t'
-    → crashing (i + 4) xs' ≡ crashing i xs
-crash-next i xs h read cut put =
-    ap (crashing (i + 4)) (put ∙ ap (put_tx xs i) (cut ∙ ap crash_tx (read ∙ here-is xs i)) ∙ put_is xs i (crash_tx (here xs i)))
-    ∙ ap (λ j. crashing j (sets xs i (spell_tx (crash_tx (here xs i))))) (add-four i)
-    ∙ crash-here i xs h
+pub crash-on : (xs : List ℕ) (i : ℕ) → length xs ≡ 256 → i < 64 → crashing (i + 1) (put_tx xs i (crash_tx (record_at (read_txs xs) i))) ≡ crashing i xs
+crash-on xs i long h = rw (add-one i) (crash-next 64 xs long i h)
 
-pub crash-end : (i : ℕ) (xs : List ℕ) → length xs ≤ i → crashing i xs ≡ xs
+crash-end : (k : ℕ) (xs : List ℕ) → length xs ≡ 4 * k → crashing k xs ≡ xs
 unfolding crash_numbers crash_txs read_txs spell_txs
-crash-end zero [] h = refl
-crash-end zero (x ∷ xs) h = absurd (let z : suc (length xs) ≤ 0 = h in omega arith)
-crash-end (suc i) [] h = refl
-crash-end (suc i) (x ∷ xs) h = ap (λ ys. x ∷ ys) (crash-end i xs (omega arith))
+crash-end = fours (λ k xs. crashing k xs ≡ xs) refl (λ k a b c d xs h. ap (λ ys. a ∷ b ∷ c ∷ d ∷ ys) h)
+
+pub crashed-all : (xs : List ℕ) → length xs ≡ 256 → crashing 64 xs ≡ xs
+crashed-all = crash-end 64
+
+pub ruleset crashes = (crash-on, crashed-all)

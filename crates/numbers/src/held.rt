@@ -1,66 +1,56 @@
 // What the store holds beside its rows: eight numbers, the four marks, the count, recovery's line, its word and its value.
-ghost use Rattle.std.specs.Prelude.{◌≡◌, not, length};
+ghost use Rattle.std.specs.Prelude.{◌≡◌, Some, None};
+ghost use Rattle.bits.specs.Marks.{pick};
 ghost use Rattle.numbers.specs.Numbers.{low as low_of};
 ghost use Rattle.numbers.specs.Ways.{held_spelt, spelled_held, spells_held};
 
 use machine::Held;
 use spelling::{read_recovery, spell_recovery, spelt_by};
 
+// A cast to 32 bits is only allowed where nothing is lost.
 fn low(n: u64) -> u32
     ensures { result ≡ low_of n }
 {
     (n % 4294967296) as u32
 }
 
-pub(crate) fn read_held(held: &[u64]) -> Held
-    requires { length held.now ≡ 8 }
-    ensures { result ≡ held_spelt held.now }
+fn held_of(numbers: [u64; 8]) -> Held
+    ensures { result ≡ held_spelt numbers }
 {
-    let marks = [held[0], held[1], held[2], held[3]];
-    let glb = low(held[4]);
-    let recovery = read_recovery(spelt_by(low(held[5]), low(held[6]), low(held[7])));
+    let [a, b, c, d, glb, line, word, value] = numbers;
     Held {
-        marks,
-        glb,
-        recovery,
+        marks: [a, b, c, d],
+        glb: low(glb),
+        recovery: read_recovery(spelt_by(low(line), low(word), low(value))),
     }
 }
 
-pub(crate) fn put_held(held: &mut [u64], next: Held)
-    requires { length held.old ≡ 8 }
-    ensures { held.new ≡ spelled_held next }
+pub(crate) fn held_numbers(held: Held) -> [u64; 8]
+    ensures { result ≡ spelled_held held }
 {
-    let marks = next.marks;
-    let recovery = next.recovery;
-    let s = spell_recovery(recovery);
-    held[0] = marks[0];
-    held[1] = marks[1];
-    held[2] = marks[2];
-    held[3] = marks[3];
-    held[4] = next.glb as u64;
-    held[5] = s.number as u64;
-    held[6] = s.word as u64;
-    held[7] = s.value as u64;
+    let [a, b, c, d] = held.marks;
+    let s = spell_recovery(held.recovery);
+    [
+        a,
+        b,
+        c,
+        d,
+        held.glb as u64,
+        s.number as u64,
+        s.word as u64,
+        s.value as u64,
+    ]
 }
 
-// The numbers are others than those that spell what is read.
-pub(crate) fn misspelt(held: &[u64]) -> bool
-    ensures { result ≡ not (spells_held held.now) }
+// What the numbers spell, if they are those that it is spelled by.
+#[tactic(auto, using(crate::proofs::Beside::spelling), unfolding(crate::specs::Ways::spells_held))]
+pub(crate) fn read_held(held: &[u64]) -> Option<Held>
+    ensures { result ≡ pick (spells_held held.now) (Some (held_spelt held.now)) None }
 {
-    if held.len() != 8 {
-        return true;
+    let numbers = *held.as_array::<8>()?;
+    let read = held_of(numbers);
+    if held_numbers(read) != numbers {
+        return None;
     }
-    let here = read_held(held);
-    let recovery = here.recovery;
-    let s = spell_recovery(recovery);
-    if here.glb as u64 != held[4] {
-        return true;
-    }
-    if s.number as u64 != held[5] {
-        return true;
-    }
-    if s.word as u64 != held[6] {
-        return true;
-    }
-    s.value as u64 != held[7]
+    Some(read)
 }

@@ -8,27 +8,69 @@ mod tx_row;
 
 ghost use Rattle.std.specs.Prelude.{◌≡◌, []};
 ghost use Rattle.dtml.specs.Table.{reply};
-ghost use Rattle.numbers.specs.Numbers.{rows, call_numbers, fresh_numbers, given, valued, gives};
+ghost use Rattle.numbers.specs.Numbers.{rows, told, call_numbers, fresh_numbers, given, valued, gives};
 
-use crate::held::{misspelt, put_held, read_held};
-use crate::tx_row::{crash_if, put_tx, read_tx, unfit_records};
-use dtml::{Answer, Call};
-use machine::work::{renew, slot, work, zero};
+use crate::held::{held_numbers, read_held};
+use crate::tx_row::{crash_if, get, put, unfit_records};
+use dtml::{Answer, Answered, Call, Refusal};
+use machine::Held;
+use machine::work::{renew, slot, work};
 use parts::answer::{number, value as value_of};
+use parts::memory::Memory;
 
 // Gives the answer's number, and puts its value into the row's first number, if there is one and the call is not refused.
-fn answered(value: &mut [u64], answer: Answer) -> u64
+fn answered(value: &mut [u64], answer: Answered) -> u64
     ensures { (result ≡ (reply answer).number) × (value.new ≡ valued value.old (reply answer)) }
 {
-    let n = number(answer);
-    if 9 <= n {
-        return n;
+    if answer.is_ok() {
+        if let Some(first) = value.first_mut() {
+            *first = value_of(answer);
+        }
     }
-    if value.len() == 0 {
-        return n;
+    number(answer)
+}
+
+// What a call answers.
+fn carried_out(
+    vol: &mut [u32],
+    pers: &mut [u32],
+    old: &mut [u32],
+    held: &mut [u64],
+    records: &mut [u32],
+    asked: Call,
+) -> Answered
+    ensures { told (reply result) (rows vol.new pers.new old.new held.new records.new)
+        ≡ call_numbers (rows vol.old pers.old old.old held.old records.old) asked }
+{
+    let Some(here) = read_held(&*held) else {
+        return Err(Refusal::Unfit);
+    };
+    let Some(records) = records.as_mut_array::<256>() else {
+        return Err(Refusal::Unfit);
+    };
+    if unfit_records(vol.len(), &*records) {
+        return Err(Refusal::Unfit);
     }
-    value[0] = value_of(answer);
-    n
+    let marks = here.marks;
+    let mut memory = Memory {
+        vol,
+        pers,
+        old_words: old,
+        marks,
+        glb: here.glb,
+    };
+    let i = slot(asked);
+    let done = work(&mut memory, here.recovery, get(&*records, i), asked);
+    put(records, i, done.tx);
+    crash_if(records, done.crashed);
+    let marks = memory.marks;
+    let next = Held {
+        marks,
+        glb: memory.glb,
+        recovery: done.recovery,
+    };
+    held.copy_from_slice(&held_numbers(next));
+    done.answer
 }
 
 // A call.
@@ -44,22 +86,7 @@ pub fn call(
     ensures { given result value.new (rows vol.new pers.new old.new held.new records.new)
         ≡ gives value.old (call_numbers (rows vol.old pers.old old.old held.old records.old) asked) }
 {
-    if misspelt(held) {
-        return answered(value, Answer::Unfit);
-    }
-    if unfit_records(vol.len(), records) {
-        return answered(value, Answer::Unfit);
-    }
-    let at = 4 * slot(asked);
-    let tx = read_tx(records, at);
-    let done = work(vol, pers, old, read_held(held), false, tx, asked);
-    let after = done.after;
-    let next = after.held;
-    let answer = after.answer;
-    put_held(held, next);
-    put_tx(records, at, done.tx);
-    crash_if(records, done.crashed);
-    answered(value, answer)
+    answered(value, carried_out(vol, pers, old, held, records, asked))
 }
 
 // A call whose value is not asked for.
@@ -74,8 +101,7 @@ pub fn asked(
     ensures { given result [] (rows vol.new pers.new old.new held.new records.new)
         ≡ gives [] (call_numbers (rows vol.old pers.old old.old held.old records.old) asked) }
 {
-    let mut value = [0u64; 1];
-    call(vol, pers, old, held, records, asked, &mut value)
+    number(carried_out(vol, pers, old, held, records, asked))
 }
 
 // Makes the store fresh, whatever the numbers were. The answer's value is always 0.
@@ -90,19 +116,17 @@ pub fn make_fresh(
         ≡ gives [] (fresh_numbers (rows vol.old pers.old old.old held.old records.old)) }
 {
     if held.len() != 8 {
-        return 9;
+        return number(Err(Refusal::Unfit));
     }
     if records.len() != 256 {
-        return 9;
+        return number(Err(Refusal::Unfit));
     }
-    let done = renew(vol, pers, old, read_held(held), 64);
-    let after = done.after;
-    let next = after.held;
-    let answer = after.answer;
-    if !done.made {
-        return number(answer);
+    match renew(vol, pers, old, 64) {
+        Ok(()) => {
+            held.fill(0);
+            records.fill(0);
+            number(Ok(Answer::Taken { lines: 0 }))
+        }
+        Err(refusal) => number(Err(refusal)),
     }
-    put_held(held, next);
-    zero(records);
-    number(answer)
 }

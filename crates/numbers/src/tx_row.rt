@@ -1,83 +1,83 @@
 // The row of records: four numbers each, loc, the number of the phase, its word and its value.
-ghost use Rattle.std.specs.Prelude.{◌+◌, ◌≤◌, ◌≡◌, length};
+ghost use Rattle.std.specs.Prelude.{◌*◌, ◌<◌, ◌≡◌};
 ghost use Rattle.bits.specs.Marks.{pick};
-ghost use Rattle.numbers.specs.Ways.{spelt_at, tx_at, put_tx, unfit_spelt, unfit_records, crash_numbers};
+ghost use Rattle.dtml.specs.Store.{record_at};
+ghost use Rattle.numbers.specs.Numbers.{spell_tx, read_txs};
+ghost use Rattle.numbers.specs.Ways.{tx_of, put_tx, unfit_numbers, unfit_records, crash_numbers};
 
 use dtml::Tx;
 use parts::fit::unfit_tx;
-use spelling::{Spelt, read_phase, same_spelling, spell_phase, spelt_by};
+use spelling::{read_phase, spell_phase, spelt_by};
 use system::crash_tx;
 
-fn spelt_at(records: &[u32], at: usize) -> Spelt
-    requires { at + 4 ≤ length records.now }
-    ensures { result ≡ spelt_at records.now at }
+fn tx_of(numbers: [u32; 4]) -> Tx
+    ensures { result ≡ tx_of numbers }
 {
-    spelt_by(records[at + 1], records[at + 2], records[at + 3])
-}
-
-// The record whose four numbers start at this place.
-pub(crate) fn read_tx(records: &[u32], at: usize) -> Tx
-    requires { at + 4 ≤ length records.now }
-    ensures { result ≡ tx_at records.now at }
-{
-    let phase = read_phase(spelt_at(records, at));
+    let [loc, number, word, value] = numbers;
     Tx {
-        loc: records[at],
-        phase,
+        loc,
+        phase: read_phase(spelt_by(number, word, value)),
     }
 }
 
-pub(crate) fn put_tx(records: &mut [u32], at: usize, tx: Tx)
-    requires { at + 4 ≤ length records.old }
-    ensures { records.new ≡ put_tx records.old at tx }
+fn tx_numbers(tx: Tx) -> [u32; 4]
+    ensures { result ≡ spell_tx tx }
 {
-    let phase = tx.phase;
-    let s = spell_phase(phase);
-    records[at] = tx.loc;
-    records[at + 1] = s.number;
-    records[at + 2] = s.word;
-    records[at + 3] = s.value;
+    let s = spell_phase(tx.phase);
+    [tx.loc, s.number, s.word, s.value]
+}
+
+#[tactic(auto, using(crate::proofs::Fours::read_is))]
+pub(crate) fn get(records: &[u32; 256], i: usize) -> Tx
+    requires { i < 64 }
+    ensures { result ≡ record_at (read_txs records.now) i }
+{
+    let (fours, _) = records.as_chunks::<4>();
+    tx_of(fours[i])
+}
+
+pub(crate) fn put(records: &mut [u32; 256], i: usize, tx: Tx)
+    requires { i < 64 }
+    ensures { records.new ≡ put_tx records.old i tx }
+{
+    let at = 4 * i;
+    records[at..at + 4].copy_from_slice(&tx_numbers(tx));
 }
 
 // The numbers spell no record, or an unfit one.
-fn unfit_spelt(n: usize, loc: u32, s: Spelt) -> bool
-    ensures { result ≡ unfit_spelt n loc s }
+#[tactic(auto, using(crate::proofs::Fours::same_is), unfolding(crate::specs::Ways::unfit_numbers))]
+fn unfit_numbers(n: usize, numbers: [u32; 4]) -> bool
+    ensures { result ≡ unfit_numbers n numbers }
 {
-    let phase = read_phase(s);
-    if !same_spelling(spell_phase(phase), s) {
+    let tx = tx_of(numbers);
+    if tx_numbers(tx) != numbers {
         return true;
     }
-    unfit_tx(n, Tx { loc, phase })
+    unfit_tx(n, tx)
 }
 
-// Some do so, or there are not 64 records.
-pub(crate) fn unfit_records(n: usize, records: &[u32]) -> bool
+// Some do so.
+#[tactic(auto, using(crate::proofs::Fours::looking))]
+pub(crate) fn unfit_records(n: usize, records: &[u32; 256]) -> bool
     ensures { result ≡ unfit_records n records.now }
 {
-    if records.len() != 256 {
-        return true;
-    }
-    let mut at: usize = 0;
-    while at < 256 {
-        if unfit_spelt(n, records[at], spelt_at(records, at)) {
+    let (fours, _) = records.as_chunks::<4>();
+    for numbers in fours {
+        if unfit_numbers(n, *numbers) {
             return true;
         }
-        at += 4;
     }
     false
 }
 
 // If there was a crash, what it does to every record.
-pub(crate) fn crash_if(records: &mut [u32], crashed: bool)
-    requires { length records.old ≡ 256 }
+#[tactic(auto, using(crate::proofs::Fours::crashes))]
+pub(crate) fn crash_if(records: &mut [u32; 256], crashed: bool)
     ensures { records.new ≡ pick crashed (crash_numbers records.old) records.old }
 {
-    if !crashed {
-        return;
-    }
-    let mut at: usize = 0;
-    while at < 256 {
-        put_tx(records, at, crash_tx(read_tx(records, at)));
-        at += 4;
+    if crashed {
+        for i in 0..64 {
+            put(records, i, crash_tx(get(&*records, i)));
+        }
     }
 }

@@ -3,111 +3,147 @@
 
 #![tactic(auto)]
 
-ghost use Rattle.std.specs.Prelude.{◌≡◌, ◌++◌, get_or, length, drop};
+ghost use Rattle.std.specs.Prelude.{◌≡◌, ◌++◌, get_or, length, drop, Ok};
 ghost use Rattle.io.specs.Counts.{IsPrefixLen};
 ghost use Rattle.dtml.specs.declared.Answer.TheVariants.{Taken};
 ghost use Rattle.dtml.specs.Table.{reply};
 ghost use Rattle.machine.specs.Given.{outcome_of};
-ghost use Rattle.pace.specs.Pace.{words_of, marks_of, old_words_of, count_of, recovery_of, records_of, calls, times_of, last_of, printed};
+ghost use Rattle.pace.specs.Pace.{kind_of, words_of, marks_of, old_words_of, count_of, recovery_of, records_of, calls, times_of, last_of, printed};
 
-use dtml::{Answer, Ask, Call, Phase, Recovery, Tx};
-use input::read_full;
-use machine::work::blank;
+use dtml::{Answer, Answered, Ask, Call, Recovery, Tx};
+use input::report_input;
 use machine::{After, Held, call};
 use marks::{Marks, mark};
 use parts::answer::{number, value};
 use std::io;
-use text::put_answer;
+use text::Page;
+
+// Which store is made: a fresh one, or one that is unfit by one thing.
+#[derive(Clone, Copy)]
+enum Kind {
+    Fresh,
+    // The old row is one word short.
+    ShortOldRow,
+    // Word 255 is marked, and the rows end before it.
+    MarkPastTheRows,
+    HighCount,
+    // Recovery is at C2, and no word is marked.
+    NoMarkAtC2,
+    // Of the last record.
+    HighLoc,
+}
+
+// A byte that names no other store is a fresh one's.
+impl From<u8> for Kind {
+    #[tactic(auto, unfolding(crate::specs::Pace::kind_of))]
+    fn from(byte: u8) -> Kind
+        ensures { result ≡ kind_of byte }
+    {
+        match byte {
+            1 => Kind::ShortOldRow,
+            2 => Kind::MarkPastTheRows,
+            3 => Kind::HighCount,
+            4 => Kind::NoMarkAtC2,
+            5 => Kind::HighLoc,
+            _ => Kind::Fresh,
+        }
+    }
+}
+
+impl Kind {
+    fn words(self) -> usize
+        ensures { result ≡ words_of self }
+    {
+        match self {
+            Kind::MarkPastTheRows => 255,
+            _ => 256,
+        }
+    }
+
+    fn old_words(self) -> usize
+        ensures { result ≡ old_words_of self }
+    {
+        match self {
+            Kind::ShortOldRow => 255,
+            _ => self.words(),
+        }
+    }
+
+    fn marks(self) -> Marks
+        ensures { result ≡ marks_of self }
+    {
+        let mut marks = Held::FRESH.marks;
+        if matches!(self, Kind::MarkPastTheRows) {
+            mark(&mut marks, 255);
+        }
+        marks
+    }
+
+    fn count(self) -> u32
+        ensures { result ≡ count_of self }
+    {
+        match self {
+            Kind::HighCount => 65536,
+            _ => 0,
+        }
+    }
+
+    fn recovery(self) -> Recovery
+        ensures { result ≡ recovery_of self }
+    {
+        match self {
+            Kind::NoMarkAtC2 => Recovery::C2,
+            _ => Recovery::Idle,
+        }
+    }
+
+    fn records(self) -> [Tx; 64]
+        ensures { result ≡ records_of self }
+    {
+        let mut row = [Tx::FRESH; 64];
+        if matches!(self, Kind::HighLoc) {
+            row[63] = Tx {
+                loc: 65536,
+                ..Tx::FRESH
+            };
+        }
+        row
+    }
+
+    // What is held of the store, and no answer yet.
+    fn first(self) -> After
+        ensures { result ≡ record { answer = Ok (Taken 0); held = record { marks = marks_of self; glb = count_of self; recovery = recovery_of self } } }
+    {
+        let held = Held {
+            marks: self.marks(),
+            glb: self.count(),
+            recovery: self.recovery(),
+        };
+        After {
+            answer: Ok(Answer::Taken { lines: 0 }),
+            held,
+        }
+    }
+}
 
 // A byte of what was read; past its end, 0.
 fn byte_at(bytes: &[u8], i: usize) -> u8
     ensures { result ≡ get_or bytes.now i 0 }
 {
-    if i < bytes.len() {
-        return bytes[i];
-    }
-    0
+    bytes.get(i).copied().unwrap_or(0)
 }
 
 fn times(e: u8) -> u64
     ensures { result ≡ times_of e }
 {
-    let many = 30 < e;
-    if many {
+    if 30 < e {
         return 1;
     }
     1u64 << e
 }
 
-fn words(kind: u8) -> usize
-    ensures { result ≡ words_of kind }
-{
-    let short = kind == 2;
-    if short { 255 } else { 256 }
-}
-
-fn old_words(kind: u8) -> usize
-    ensures { result ≡ old_words_of kind }
-{
-    let short = kind == 1;
-    if short { 255 } else { words(kind) }
-}
-
-fn marks_of(kind: u8) -> Marks
-    ensures { result ≡ marks_of kind }
-{
-    let mut marks = [0u64; 4];
-    let past = kind == 2;
-    if past {
-        mark(&mut marks, 255);
-    }
-    marks
-}
-
-fn count_of(kind: u8) -> u32
-    ensures { result ≡ count_of kind }
-{
-    let unfit = kind == 3;
-    if unfit { 65536 } else { 0 }
-}
-
-fn recovery_of(kind: u8) -> Recovery
-    ensures { result ≡ recovery_of kind }
-{
-    let unfit = kind == 4;
-    if unfit { Recovery::C2 } else { Recovery::Idle }
-}
-
-fn records_of(kind: u8) -> [Tx; 64]
-    ensures { result ≡ records_of kind }
-{
-    let mut row = blank();
-    let unfit = kind == 5;
-    if unfit {
-        row[63] = Tx {
-            loc: 65536,
-            phase: Phase::Fresh,
-        };
-    }
-    row
-}
-
-// What is held of the store, and no answer yet.
-fn first(kind: u8) -> After
-    ensures { result ≡ record { answer = Taken 0; held = record { marks = marks_of kind; glb = count_of kind; recovery = recovery_of kind } } }
-{
-    let held = Held {
-        marks: marks_of(kind),
-        glb: count_of(kind),
-        recovery: recovery_of(kind),
-    };
-    After {
-        answer: Answer::Taken { lines: 0 },
-        held,
-    }
-}
-
 // Owns the 64 records, and lends them and the rows that it was lent to so many calls; what is held beside them goes in and comes back.
+#[tactic(auto, using(crate::proofs::Reports::one_more), unfolding(crate::specs::Pace::calls))]
 fn call_on(
     vol: &mut [u32],
     pers: &mut [u32],
@@ -122,23 +158,22 @@ fn call_on(
 {
     let mut txs = row;
     let mut last = first;
-    let mut i: u64 = 0;
-    while i < times {
+    for _ in 0..times {
         last = call(vol, pers, old, &mut txs, last.held, asked);
-        i += 1;
     }
     last
 }
 
 // Owns the word rows of a store, of which it lends as much as the store has, for so many steps of transaction 0; gives the last answer.
-fn answer_of(kind: u8, times: u64) -> Answer
+#[tactic(auto, using(crate::proofs::Reports::lent))]
+fn answer_of(kind: Kind, times: u64) -> Answered
     ensures { reply result ≡ (last_of kind times).reply }
 {
     let mut vol = [0u32; 256];
     let mut pers = [0u32; 256];
     let mut old = [0u32; 256];
-    let n = words(kind);
-    let m = old_words(kind);
+    let n = kind.words();
+    let m = kind.old_words();
     let asked = Call::On {
         id: 0,
         ask: Ask::Step,
@@ -147,8 +182,8 @@ fn answer_of(kind: u8, times: u64) -> Answer
         &mut vol[..n],
         &mut pers[..n],
         &mut old[..m],
-        records_of(kind),
-        first(kind),
+        kind.records(),
+        kind.first(),
         asked,
         times,
     );
@@ -162,17 +197,13 @@ fn report(bytes: &[u8], out: &mut [u8]) -> usize
         × (result ≡ length (printed bytes.now)) × IsPrefixLen result out.new }
 {
     let n = times(byte_at(bytes, 1));
-    let answer = answer_of(byte_at(bytes, 0), n);
-    put_answer(out, 0, n, number(answer), value(answer))
+    let answer = answer_of(Kind::from(byte_at(bytes, 0)), n);
+    let mut page = Page { bytes: out, at: 0 };
+    page.put_answer(n, number(answer), value(answer));
+    page.at
 }
 
 // Where a read fails, the line is that of what stood before it, and the program then ends with the error.
 fn main(rt: HostRuntime) -> io::Result<()> {
-    let mut bytes = [0u8; 2];
-    let mut reader = rt.reader();
-    let (got, read) = read_full(&mut reader, &mut bytes);
-    let mut text = [0u8; 64];
-    let length = report(&bytes[..got], &mut text);
-    rt.write_all(&text[..length])?;
-    read
+    report_input::<2, 64, _, _, _>(&mut rt.reader(), &mut io::writer(&rt), report)
 }
