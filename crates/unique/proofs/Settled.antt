@@ -2,7 +2,7 @@
 -- the outcome is the definition's (`result`, `row`), or it can be read back from what is said of it (the others).
 use Prim.Native.Nat.{ℕ}
 use mathlib.Core.Path.{◌≡◌, refl, sym, ap, ◌∙◌}
-use mathlib.Core.List.{List}
+use mathlib.Core.List.{List, []}
 use seplogic.Ra.Ura.{Ura}
 use base.Logic.{ent, via, emp, sep}
 use contract.Conj.{conj_r, conj_mono, sep→conj}
@@ -13,6 +13,7 @@ use Rattle.parts.specs.declared.memory.Memory.{Memory as Lent}
 use Rattle.parts.specs.Lent.{memory_of, SameRows}
 use Rattle.machine.specs.declared.After.{After}
 use Rattle.machine.specs.Working.{Renewed}
+use Rattle.numbers.specs.Numbers.{Rows, rows, Given, given}
 use Rattle.reader.specs.declared.Seen.{Seen}
 use Rattle.reader.specs.Trace.{Item}
 use Rattle.reader.specs.Said.{item}
@@ -34,7 +35,7 @@ both 𝓤 {P} {Q} {R} f = guard-conj 𝓤 P (emp 𝓤) (fact 𝓤 Q) (λ p. via 
 -- the same of two promises of two facts each
 said : {M : Type 1} (𝓤 : Ura M) {P Q P' Q' R : Type 0} → (P → P' → Q → Q' → R)
     → ent 𝓤 (conj 𝓤 (sep 𝓤 (fact 𝓤 P) (fact 𝓤 Q)) (sep 𝓤 (fact 𝓤 P') (fact 𝓤 Q'))) (fact 𝓤 R)
-said {M} 𝓤 {P} {Q} {P'} {Q'} f =
+said 𝓤 {P} {Q} {P'} {Q'} f =
     via 𝓤 (conj 𝓤 (fact 𝓤 (P × Q)) (fact 𝓤 (P' × Q'))) (conj_mono 𝓤 (as-one P Q) (as-one P' Q')) (both 𝓤 (λ p q. f p.0 q.0 p.1 q.1))
   where
     as-one : (P Q : Type 0) → ent 𝓤 (sep 𝓤 (fact 𝓤 P) (fact 𝓤 Q)) (fact 𝓤 (P × Q))
@@ -104,6 +105,21 @@ printed : {W : Type 0} {d : Buffer} (lent : Page) (x y : Unit {0} × (Page × W)
 printed lent x y s t p q =
     ap (λ b. (tt, (b, x.1.1))) (same-bytes lent x.1.0 y.1.0 (on_page x.1.0) s t) ∙ ap (λ o. (tt, (in_bytes y.1.0 o, x.1.1))) (p ∙ sym q)
 
+-- a number and the five rows
+abbrev Five : Type 0 → Type 0
+Five W = ℕ × (List ℕ × (List ℕ × (List ℕ × (List ℕ × (List ℕ × W)))))
+
+module _ {W : Type 0} where
+  abbrev rows_of : Five W → Rows
+  rows_of x = rows x.1.0 x.1.1.0 x.1.1.1.0 x.1.1.1.1.0 x.1.1.1.1.1.0
+
+  abbrev five : W → Given → Five W
+  five w z = (z.number, (z.rows.vol, (z.rows.pers, (z.rows.old, (z.rows.held, (z.rows.records, w))))))
+
+  numbered : {d : Given} (x y : Five W) → given x.0 [] (rows_of x) ≡ d → given y.0 [] (rows_of y) ≡ d
+      → five x.1.1.1.1.1.1 (given x.0 [] (rows_of x)) ≡ five x.1.1.1.1.1.1 (given y.0 [] (rows_of y))
+  numbered x y p q = ap (five x.1.1.1.1.1.1) (p ∙ sym q)
+
 -- the end of a replay
 abbrev closed : Ended × (Unit {0} × (List ℕ × (List ℕ × (List ℕ × (List Tx × (Unit {0} × (List ℕ × Unit {0}))))))) → Closed
 closed x = record { ended = x.0; vol = x.1.1.0; pers = x.1.1.1.0; old = x.1.1.1.1.0; txs = x.1.1.1.1.1.0; out = x.1.1.1.1.1.1.1.0 }
@@ -158,6 +174,19 @@ unique-outcomes 𝓤 =
       spelling-spell-recovery = (λ κs a. refl, λ 𝓛 mem run κs a g x y. both 𝓤 (result x y));
       spelling-read-recovery = (λ κs a. refl, λ 𝓛 mem run κs a g x y. both 𝓤 (result x y));
       spelling-same-spelling = (λ κs a. refl, λ 𝓛 mem run κs a g x y. both 𝓤 (result x y));
+      numbers-call = (λ κs a. refl, λ 𝓛 mem run κs a g x y. both 𝓤 (λ p q. ap (λ (z : Given). five (tt, (z.value, tt)) z) (p ∙ sym q)));
+      numbers-asked = (λ κs a. refl, λ 𝓛 mem run κs a g x y. both 𝓤 (numbered x y));
+      numbers-make-fresh = (λ κs a. refl, λ 𝓛 mem run κs a g x y. both 𝓤 (numbered x y));
+      calls-register-begin = (λ κs a. refl, λ 𝓛 mem run κs a g x y. both 𝓤 (numbered x y));
+      calls-register-read = (λ κs a. refl, λ 𝓛 mem run κs a g x y. both 𝓤 (numbered x y));
+      calls-register-write = (λ κs a. refl, λ 𝓛 mem run κs a g x y. both 𝓤 (numbered x y));
+      calls-register-commit = (λ κs a. refl, λ 𝓛 mem run κs a g x y. both 𝓤 (numbered x y));
+      calls-register-step = (λ κs a. refl, λ 𝓛 mem run κs a g x y. both 𝓤 (λ p q. ap (λ (z : Given). five (tt, (z.value, tt)) z) (p ∙ sym q)));
+      calls-register-make-fresh = (λ κs a. refl, λ 𝓛 mem run κs a g x y. both 𝓤 (numbered x y));
+      calls-register-flush = (λ κs a. refl, λ 𝓛 mem run κs a g x y. both 𝓤 (numbered x y));
+      calls-register-crash = (λ κs a. refl, λ 𝓛 mem run κs a g x y. both 𝓤 (numbered x y));
+      calls-register-recover = (λ κs a. refl, λ 𝓛 mem run κs a g x y. both 𝓤 (numbered x y));
+      calls-register-recover-up-to = (λ κs a. refl, λ 𝓛 mem run κs a g x y. both 𝓤 (λ p q. ap (λ (z : Given). five (tt, (z.value, tt)) z) (p ∙ sym q)));
       text-put-byte = (λ κs a. refl, λ 𝓛 mem run κs a g x y. said 𝓤 (printed a.0.now x y));
       text-put-bytes = (λ κs a. refl, λ 𝓛 mem run κs a g x y. said 𝓤 (printed a.0.now x y));
       text-put-decimal = (λ κs a. refl, λ 𝓛 mem run κs a g x y. said 𝓤 (printed a.0.now x y));

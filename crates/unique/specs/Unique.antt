@@ -20,6 +20,8 @@ use Rattle.system.specs.contracts as system
 use Rattle.records.specs.contracts as records
 use Rattle.machine.specs.contracts as machine
 use Rattle.spelling.specs.contracts as spelling
+use Rattle.numbers.specs.contracts as numbers
+use Rattle.calls.specs.contracts as calls
 use Rattle.text.specs.contracts as text
 use Rattle.day.specs.contracts as day
 use Rattle.trace.specs.contracts as trace
@@ -98,6 +100,19 @@ pub record UniqueOutcomes {M : Type 1} (𝓤 : Ura M) : Type 2 where
   pub spelling-spell-recovery : Settled spelling.spell_recovery.ended (spelling.spell_recovery.clauses {𝓤 = 𝓤})
   pub spelling-read-recovery : Settled spelling.read_recovery.ended (spelling.read_recovery.clauses {𝓤 = 𝓤})
   pub spelling-same-spelling : Settled spelling.same_spelling.ended (spelling.same_spelling.clauses {𝓤 = 𝓤})
+  pub numbers-call : Settled numbers.call.ended (numbers.call.clauses {𝓤 = 𝓤})
+  pub numbers-asked : Settled numbers.asked.ended (numbers.asked.clauses {𝓤 = 𝓤})
+  pub numbers-make-fresh : Settled numbers.make_fresh.ended (numbers.make_fresh.clauses {𝓤 = 𝓤})
+  pub calls-register-begin : Settled calls.register_begin.ended (calls.register_begin.clauses {𝓤 = 𝓤})
+  pub calls-register-read : Settled calls.register_read.ended (calls.register_read.clauses {𝓤 = 𝓤})
+  pub calls-register-write : Settled calls.register_write.ended (calls.register_write.clauses {𝓤 = 𝓤})
+  pub calls-register-commit : Settled calls.register_commit.ended (calls.register_commit.clauses {𝓤 = 𝓤})
+  pub calls-register-step : Settled calls.register_step.ended (calls.register_step.clauses {𝓤 = 𝓤})
+  pub calls-register-make-fresh : Settled calls.events.register_make_fresh.ended (calls.events.register_make_fresh.clauses {𝓤 = 𝓤})
+  pub calls-register-flush : Settled calls.events.register_flush.ended (calls.events.register_flush.clauses {𝓤 = 𝓤})
+  pub calls-register-crash : Settled calls.events.register_crash.ended (calls.events.register_crash.clauses {𝓤 = 𝓤})
+  pub calls-register-recover : Settled calls.events.register_recover.ended (calls.events.register_recover.clauses {𝓤 = 𝓤})
+  pub calls-register-recover-up-to : Settled calls.events.register_recover_up_to.ended (calls.events.register_recover_up_to.clauses {𝓤 = 𝓤})
   -- the trace
   pub text-put-byte : Settled text.Page.put_byte.ended (text.Page.put_byte.clauses {𝓤 = 𝓤})
   pub text-put-bytes : Settled text.Page.put_bytes.ended (text.Page.put_bytes.clauses {𝓤 = 𝓤})
