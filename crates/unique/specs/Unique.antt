@@ -1,5 +1,6 @@
 -- Document 01: "For all inputs a public function's promise settles the answer and every lent row afterwards, after a refusal too." A promise is a function's clauses
--- as the toolchain makes them from its source, so none can be weakened unseen. The one exception is `input::read_full`, whose outcome is the reader's.
+-- as the toolchain makes them from its source, so none can be weakened unseen. A method stands below its type, as `text.Page.put_byte`, and a trait's method below the
+-- type's name and the trait's. The exceptions are `input::read_full` and `input::report_input`, whose outcomes are the reader's to say, and the writer's.
 use Rattle.std.specs.Prelude.{◌≡◌}
 use seplogic.Ra.Ura.{Ura}
 use base.Logic.{SProp, ent}
@@ -22,6 +23,7 @@ use Rattle.spelling.specs.contracts as spelling
 use Rattle.numbers.specs.contracts as numbers
 use Rattle.calls.specs.contracts as calls
 use Rattle.text.specs.contracts as text
+use Rattle.day.specs.contracts as day
 use Rattle.trace.specs.contracts as trace
 use Rattle.host.specs.contracts as host
 use Rattle.reader.specs.contracts as reader
@@ -35,7 +37,8 @@ abbrev pub Whole : Ended → Type 1
 Whole T =
     (κs : Lfts T.signature.lifetimes) (a : Args T.signature κs) → Lasts T κs a ≡ Fins κs T.signature.params (all yes T.signature.params) a
 
--- Any two outcomes that a promise allows are equal: in every model, and for all arguments, where its `ensures` holds of both, they are.
+-- Any two outcomes that a promise allows are equal: in every model, and for all arguments, where its `ensures` holds of both, they are. Of a struct that is lent and
+-- itself holds rows that are lent, all is settled: of each row the place in memory, the loan and what stands in it.
 module _ {M : Type 1} {𝓤 : Ura M} where
   abbrev pub Settled : (T : Ended) → ((𝓛 : Logic 𝓤) → (Memory → SProp 𝓤) → (Routine → Fun 𝓤) → Clauses 𝓤 T) → Type 2
   Settled T promise =
@@ -68,10 +71,10 @@ pub record UniqueOutcomes {M : Type 1} (𝓤 : Ura M) : Type 2 where
   pub parts-phase-past : Settled parts.fit.phase_past.ended (parts.fit.phase_past.clauses {𝓤 = 𝓤})
   pub parts-unfit-recovery : Settled parts.fit.unfit_recovery.ended (parts.fit.unfit_recovery.clauses {𝓤 = 𝓤})
   pub parts-unfit-tx : Settled parts.fit.unfit_tx.ended (parts.fit.unfit_tx.clauses {𝓤 = 𝓤})
-  pub parts-unfit-idle : Settled parts.fit.unfit_idle.ended (parts.fit.unfit_idle.clauses {𝓤 = 𝓤})
-  pub parts-unfit-beside : Settled parts.fit.unfit_beside.ended (parts.fit.unfit_beside.clauses {𝓤 = 𝓤})
-  pub parts-unfit-one : Settled parts.fit.unfit_one.ended (parts.fit.unfit_one.clauses {𝓤 = 𝓤})
-  pub parts-flush-word : Settled parts.words.flush_word.ended (parts.words.flush_word.clauses {𝓤 = 𝓤})
+  pub parts-unfit-idle : Settled parts.memory.Memory.unfit_idle.ended (parts.memory.Memory.unfit_idle.clauses {𝓤 = 𝓤})
+  pub parts-unfit-beside : Settled parts.memory.Memory.unfit_beside.ended (parts.memory.Memory.unfit_beside.clauses {𝓤 = 𝓤})
+  pub parts-unfit-one : Settled parts.memory.Memory.unfit_one.ended (parts.memory.Memory.unfit_one.clauses {𝓤 = 𝓤})
+  pub parts-flush-word : Settled parts.memory.Memory.flush_word.ended (parts.memory.Memory.flush_word.clauses {𝓤 = 𝓤})
   -- the calls, on what they are handed
   pub lines-call-one : Settled lines.call_one.ended (lines.call_one.clauses {𝓤 = 𝓤})
   pub system-call-system : Settled system.call_system.ended (system.call_system.clauses {𝓤 = 𝓤})
@@ -111,14 +114,17 @@ pub record UniqueOutcomes {M : Type 1} (𝓤 : Ura M) : Type 2 where
   pub calls-register-recover : Settled calls.events.register_recover.ended (calls.events.register_recover.clauses {𝓤 = 𝓤})
   pub calls-register-recover-up-to : Settled calls.events.register_recover_up_to.ended (calls.events.register_recover_up_to.clauses {𝓤 = 𝓤})
   -- the trace
-  pub text-put-byte : Settled text.put_byte.ended (text.put_byte.clauses {𝓤 = 𝓤})
-  pub text-put-decimal : Settled text.put_decimal.ended (text.put_decimal.clauses {𝓤 = 𝓤})
-  pub text-put-answer : Settled text.put_answer.ended (text.put_answer.clauses {𝓤 = 𝓤})
-  pub text-put-stop : Settled text.put_stop.ended (text.put_stop.clauses {𝓤 = 𝓤})
-  pub text-put-totals : Settled text.put_totals.ended (text.put_totals.clauses {𝓤 = 𝓤})
+  pub text-put-byte : Settled text.Page.put_byte.ended (text.Page.put_byte.clauses {𝓤 = 𝓤})
+  pub text-put-bytes : Settled text.Page.put_bytes.ended (text.Page.put_bytes.clauses {𝓤 = 𝓤})
+  pub text-put-decimal : Settled text.Page.put_decimal.ended (text.Page.put_decimal.clauses {𝓤 = 𝓤})
+  pub text-put-answer : Settled text.Page.put_answer.ended (text.Page.put_answer.clauses {𝓤 = 𝓤})
+  pub text-put-stop : Settled text.Page.put_stop.ended (text.Page.put_stop.clauses {𝓤 = 𝓤})
+  pub text-put-totals : Settled text.Page.put_totals.ended (text.Page.put_totals.clauses {𝓤 = 𝓤})
+  pub day-from : Settled day.ReplayRefusalFromTraceRefusal.from.ended (day.ReplayRefusalFromTraceRefusal.from.clauses {𝓤 = 𝓤})
   pub trace-replay-beside : Settled trace.replay_beside.ended (trace.replay_beside.clauses {𝓤 = 𝓤})
   pub trace-replay : Settled trace.replay.ended (trace.replay.clauses {𝓤 = 𝓤})
   pub host-register-replay : Settled host.register_replay.ended (host.register_replay.clauses {𝓤 = 𝓤})
+  pub reader-number : Settled reader.number.ended (reader.number.clauses {𝓤 = 𝓤})
   pub reader-header : Settled reader.trace.header.ended (reader.trace.header.clauses {𝓤 = 𝓤})
   pub reader-next : Settled reader.place.next.ended (reader.place.next.clauses {𝓤 = 𝓤})
   pub reader-read-at : Settled reader.place.read_at.ended (reader.place.read_at.clauses {𝓤 = 𝓤})
