@@ -10,32 +10,31 @@ use lib.ListN.{length, set, replicate}
 use lib.Dec.{eqb}
 use Rattle.std.specs.Prelude.{Option, Some, None, Result, Ok, Err}
 use Rattle.bits.specs.Marks.{pick}
-use Rattle.dtml.specs.declared.Answer.TheVariants.{Taken}
+use Rattle.dtml.specs.declared.Answer.{Answer}
 use Rattle.dtml.specs.declared.Refusal.{Refusal}
 use Rattle.dtml.specs.declared.Refusal.TheVariants.{Unfit}
 use Rattle.dtml.specs.declared.Phase.TheVariants.{Fresh}
 use Rattle.dtml.specs.declared.Tx.{Tx}
 use Rattle.dtml.specs.Table.{Reply, says, reply}
-use Rattle.dtml.specs.Store.{Store, Memory, memory, record_at, tx}
+use Rattle.dtml.specs.Store.{Memory, memory, record_at, tx}
 use Rattle.dtml.specs.Lines.{crash_txs}
 use Rattle.dtml.specs.declared.Call.{Call}
 use Rattle.dtml.specs.First.{any_of}
 use Rattle.dtml.specs.Checks.{unfit, unfit_rows, unfit_memory, unfit_txs}
-use Rattle.dtml.specs.Calls.{refused, call}
+use Rattle.dtml.specs.Calls.{call}
 use Rattle.dtml.specs.Handed.{slot_of, reach}
 use Rattle.machine.specs.declared.Held.{Held}
 use Rattle.machine.specs.declared.work.Worked.{Worked}
 use Rattle.machine.specs.Working.{worked, worked_of, Renewed, renewed, renewed_of}
-use Rattle.machine.proofs.Whole.{unfit-any, called-whole, fresh-refused, fresh-made}
-use Rattle.numbers.specs.Numbers.{Rows, rows, spell_txs, read_txs, spell_store, read_store, same, spells, Told, told, spell_outcome, refused_rows, call_numbers, unfit_lengths, fresh_numbers, given, valued, gives}
+use Rattle.machine.proofs.Whole.{unfit-any, called-whole, fresh-made}
+use Rattle.numbers.specs.Numbers.{Rows, rows, spell_txs, read_txs, spell_store, read_store, same, spells, Told, told, spell_outcome, refused_rows, call_numbers, unfit_lengths, fresh_numbers, given, gives}
 use Rattle.numbers.specs.Ways.{put_tx, unfit_records, crash_numbers, held_spelt, spelled_held, spells_held}
 use Rattle.numbers.proofs.Again.{txs-again}
 use Rattle.numbers.proofs.Fours.{both, same_true, same_self, tx-put, read_length}
 
--- the answer is given back as a number and a row
-pub answers : (value : List ℕ) {r : ℕ} {value' : List ℕ} {a : Reply} {x : Rows} {t : Told} → r ≡ a.number → value' ≡ valued value a → told a x ≡ t
-    → given r value' x ≡ gives value t
-answers value {value' = value'} {a} {x} e f g = ap (λ n. given n value' x) e ∙ ap (λ v. given a.number v x) f ∙ ap (gives value) g
+-- an answer whose value is not asked for
+pub answers : {r : ℕ} {a : Reply} {x : Rows} {t : Told} → r ≡ a.number → told a x ≡ t → given r [] x ≡ gives [] t
+answers {x = x} e f = ap (λ n. given n [] x) e ∙ ap (gives []) f
 
 -- ---- records that are spelled
 
@@ -90,9 +89,9 @@ module _ (x : Rows) where
       ap length (sym (same_true (spell_txs (read_txs x.records)) x.records h.1)) ∙ spelled-length (read_txs x.records) in
       ap not (ne_eqb (length (read_txs x.records)) 64 (λ k. n (omega arith)))
 
-  pub held-refused : (c : Call) → spells_held x.held ≡ false → refused_rows x ≡ call_numbers x c
+  pub held-refused : (c : Call) {r : Result Answer Refusal} → r ≡ Err Unfit → spells_held x.held ≡ false → told (reply r) x ≡ call_numbers x c
   unfolding call_numbers spells spells_held
-  held-refused c e = rw e
+  held-refused c is e = rw (is, e)
 
   -- an unfit store is refused, and its numbers spell it again
   refused-if : (c : Call) → (spells x ≡ true → unfit (read_store x) ≡ true) → refused_rows x ≡ call_numbers x c
@@ -103,10 +102,11 @@ module _ (x : Rows) where
       go true e = sym (rw e (ap spell_outcome (unfit-any (read_store x) c (bad e)) ∙ ap (told (says 9 0)) (the_same e)))
       go false e = rw e
 
-  pub short-refused : (c : Call) → (length x.records ≡ 256 → ⊥) → refused_rows x ≡ call_numbers x c
+  pub short-refused : (c : Call) {r : Result Answer Refusal} → r ≡ Err Unfit → (length x.records ≡ 256 → ⊥) → told (reply r) x ≡ call_numbers x c
   unfolding unfit
-  short-refused c n =
-      refused-if c (λ e. second (unfit_memory (read_store x).mem (read_store x).rec) (not (eqb (length (read_txs x.records)) 64)) (unfit_txs (length x.vol) (read_txs x.records))
+  short-refused c is n =
+      ap (λ a. told (reply a) x) is
+      ∙ refused-if c (λ e. second (unfit_memory (read_store x).mem (read_store x).rec) (not (eqb (length (read_txs x.records)) 64)) (unfit_txs (length x.vol) (read_txs x.records))
       (not-64 e n))
 
   pub unfit-refused : (c : Call) {xs : List ℕ} {b : Bool} → xs ≡ x.records → b ≡ unfit_records (length x.vol) xs → b ≡ true

@@ -7,19 +7,20 @@ ghost use Rattle.numbers.specs.Ways.{held_spelt, spelled_held, spells_held};
 use machine::Held;
 use spelling::{read_recovery, spell_recovery, spelt_by};
 
-// A cast to 32 bits is only allowed where nothing is lost.
+// The low 32 bits: a cast is allowed only where it loses nothing.
 fn low(n: u64) -> u32
     ensures { result ≡ low_of n }
 {
     (n % 4294967296) as u32
 }
 
+// Any eight numbers can be read.
 fn held_of(numbers: [u64; 8]) -> Held
     ensures { result ≡ held_spelt numbers }
 {
-    let [a, b, c, d, glb, line, word, value] = numbers;
+    let [first, second, third, fourth, glb, line, word, value] = numbers;
     Held {
-        marks: [a, b, c, d],
+        marks: [first, second, third, fourth],
         glb: low(glb),
         recovery: read_recovery(spelt_by(low(line), low(word), low(value))),
     }
@@ -28,13 +29,13 @@ fn held_of(numbers: [u64; 8]) -> Held
 pub(crate) fn held_numbers(held: Held) -> [u64; 8]
     ensures { result ≡ spelled_held held }
 {
-    let [a, b, c, d] = held.marks;
+    let [first, second, third, fourth] = held.marks;
     let s = spell_recovery(held.recovery);
     [
-        a,
-        b,
-        c,
-        d,
+        first,
+        second,
+        third,
+        fourth,
         held.glb as u64,
         s.number as u64,
         s.word as u64,

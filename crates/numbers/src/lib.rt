@@ -30,7 +30,7 @@ fn answered(value: &mut [u64], answer: Answered) -> u64
     number(answer)
 }
 
-// What a call answers.
+// A call, with its answer as it is. The five rows are parameters of their own throughout, as a host hands them over.
 fn carried_out(
     vol: &mut [u32],
     pers: &mut [u32],
@@ -42,12 +42,8 @@ fn carried_out(
     ensures { told (reply result) (rows vol.new pers.new old.new held.new records.new)
         ≡ call_numbers (rows vol.old pers.old old.old held.old records.old) asked }
 {
-    let Some(here) = read_held(&*held) else {
-        return Err(Refusal::Unfit);
-    };
-    let Some(records) = records.as_mut_array::<256>() else {
-        return Err(Refusal::Unfit);
-    };
+    let here = read_held(&*held).ok_or(Refusal::Unfit)?;
+    let records = records.as_mut_array::<256>().ok_or(Refusal::Unfit)?;
     if unfit_records(vol.len(), &*records) {
         return Err(Refusal::Unfit);
     }
@@ -122,6 +118,7 @@ pub fn make_fresh(
         return number(Err(Refusal::Unfit));
     }
     match renew(vol, pers, old, 64) {
+        // All numbers of a fresh store are 0.
         Ok(()) => {
             held.fill(0);
             records.fill(0);

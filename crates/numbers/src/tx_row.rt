@@ -10,6 +10,7 @@ use parts::fit::unfit_tx;
 use spelling::{read_phase, spell_phase, spelt_by};
 use system::crash_tx;
 
+// Any four numbers can be read.
 fn tx_of(numbers: [u32; 4]) -> Tx
     ensures { result ≡ tx_of numbers }
 {
@@ -27,6 +28,7 @@ fn tx_numbers(tx: Tx) -> [u32; 4]
     [tx.loc, s.number, s.word, s.value]
 }
 
+// Record i.
 #[tactic(auto, using(crate::proofs::Fours::read_is))]
 pub(crate) fn get(records: &[u32; 256], i: usize) -> Tx
     requires { i < 64 }
@@ -36,6 +38,7 @@ pub(crate) fn get(records: &[u32; 256], i: usize) -> Tx
     tx_of(fours[i])
 }
 
+// Puts record i back. By place, since after `as_chunks_mut` only the row's length would be known.
 pub(crate) fn put(records: &mut [u32; 256], i: usize, tx: Tx)
     requires { i < 64 }
     ensures { records.new ≡ put_tx records.old i tx }

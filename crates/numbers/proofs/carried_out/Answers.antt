@@ -6,11 +6,11 @@ use Rattle.numbers.specs.Numbers.{rows}
 use Rattle.numbers.proofs.Whole.{held-refused, short-refused, unfit-refused, not-spelled, held-long, with-rows, called}
 use Rattle.numbers.proofs.carried_out.Goals as goal
 
-pub returns-in_default : goal.returns-in_default
-returns-in_default c = held-refused _ c.args.asked (not-spelled _ c.read_held.ensures c.in_default.is)
+pub returns-in_err-here : goal.returns-in_err-here
+returns-in_err-here c = held-refused _ c.args.asked (search rules) (not-spelled _ c.read_held.ensures (search rules))
 
-pub returns-in_default-as_mut_array : goal.returns-in_default-as_mut_array
-returns-in_default-as_mut_array c = short-refused _ c.args.asked (search rules)
+pub returns-in_err-records : goal.returns-in_err-records
+returns-in_err-records c = short-refused _ c.args.asked (search rules) (search rules)
 
 pub returns-then-unfit_records : goal.returns-then-unfit_records
 returns-then-unfit_records c =
@@ -18,12 +18,12 @@ returns-then-unfit_records c =
 
 pub copy_from_slice-requires : goal.copy_from_slice-requires
 copy_from_slice-requires c =
-    let a = held-long _ c.read_held.ensures c.in-Some.is in
+    let a = held-long _ c.read_held.ensures {hd = c.in_ok-here.here} (search rules) in
     search rules
 
 pub returns : goal.returns
 returns c =
     let args = c.args in
     with-rows (memory_of c.work-done.new.memory) (search rules) (search rules) (search rules)
-    (called args.vol.now args.pers.now args.old.now args.held.now args.records.now args.asked c.work-done.result c.read_held.ensures c.in-Some.is (search rules) (search rules)
+    (called args.vol.now args.pers.now args.old.now args.held.now args.records.now args.asked c.work-done.result c.read_held.ensures (search rules) (search rules) (search rules)
     c.if-unfit_records.false c.slot-i.ensures.0 c.slot-i.ensures.1 (search rules) c.work-done.ensures.left (search rules) c.crash_if.ensures (c.copy_from_slice.ensures.after ∙ c.held_numbers.ensures))
