@@ -144,7 +144,7 @@ rows_same v p o e =
     (sym (eqb-true v p (not-false _ a.0)), sym (eqb-true v o (not-false _ b.0)))
 
 -- what a store made fresh has, or one that is refused
-abbrev made_by : Held → List Tx → List ℕ → List ℕ → List ℕ → Result (Unit {0}) Refusal → Outcome
+abbrev pub made_by : Held → List Tx → List ℕ → List ℕ → List ℕ → Result (Unit {0}) Refusal → Outcome
 made_by h ts v p o (Ok u) = outcome_of v p o (stored_if (Some (replicate 64 (tx 0 Fresh))) ts) (record { answer = Ok (Taken 0); held = fresh_held })
 made_by h ts v p o (Err k) = outcome_of v p o ts (record { answer = Err k; held = h })
 
@@ -163,9 +163,12 @@ module _ (v p o : List ℕ) (h : Held) (ts : List Tx) where
       go false true e f = let same = rows_same (length v) (length p) (length o) e in rw (e, f) (rw (f, same.0, same.1))
 
   module _ {v' p' o' : List ℕ} {x : Result (Unit {0}) Refusal} (done : renewed_of x v' p' o' ≡ renewed v p o (length ts)) where
+    pub made-whole : made_by h ts v' p' o' x ≡ make_fresh (store_of v p o h ts)
+    made-whole = ap (made h ts) done ∙ renews
+
     pub fresh-refused : {k : Refusal} → x ≡ Err k → outcome_of v' p' o' ts (record { answer = Err k; held = h }) ≡ make_fresh (store_of v p o h ts)
-    fresh-refused is = (rw is at (ap (made h ts) done)) ∙ renews
+    fresh-refused is = rw is at made-whole
 
     pub fresh-made : {u : Unit {0}} {ts' row : List Tx} → x ≡ Ok u → row ≡ replicate 64 (tx 0 Fresh) → ts' ≡ stored_if (Some row) ts
         → outcome_of v' p' o' ts' (record { answer = Ok (Taken 0); held = fresh_held }) ≡ make_fresh (store_of v p o h ts)
-    fresh-made is blank stored = rw (stored, blank) ((rw is at (ap (made h ts) done)) ∙ renews)
+    fresh-made is blank stored = rw (stored, blank) (rw is at made-whole)

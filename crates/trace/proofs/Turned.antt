@@ -224,17 +224,17 @@ module _ {bs : List ℕ} {n : ℕ} {first : List ℕ} {m : Memory} {o : Buffer} 
         let b = inside in rw past (omega arith),
       )
 
-      pub nothing-on : y.change ≡ Change.Nothing → Onward r ts
-      nothing-on e = onward Change.Nothing e ts (sym (set-get_or ts i (tx 0 Fresh)))
+      pub still-on : y.change ≡ Change.Nothing → Onward r ts
+      still-on e = onward Change.Nothing e ts (sym (set-get_or ts i (tx 0 Fresh)))
 
-      pub record-on : {t' : Tx} → y.change ≡ Change.Record t' → Onward r (set ts i t')
-      record-on {t'} e = onward (Change.Record t') e (set ts i t') refl
+      pub turned-on : {t' : Tx} → y.change ≡ Change.Record t' → Onward r (set ts i t')
+      turned-on {t'} e = onward (Change.Record t') e (set ts i t') refl
 
-      pub recovery-on : {r' : Recovery} → y.change ≡ Change.Recovery r' → Onward r' ts
-      recovery-on {r'} e = onward (Change.Recovery r') e ts (sym (set-get_or ts i (tx 0 Fresh)))
+      pub recovering-on : {r' : Recovery} → y.change ≡ Change.Recovery r' → Onward r' ts
+      recovering-on {r'} e = onward (Change.Recovery r') e ts (sym (set-get_or ts i (tx 0 Fresh)))
 
-      pub crash-on : y.change ≡ Change.Crash → {rows : List Tx} → rows ≡ crash_txs ts → Onward C1 rows
-      crash-on e {rows} q = onward Change.Crash e rows (q ∙ ap crash_txs (sym (set-get_or ts i (tx 0 Fresh))))
+      pub crashed-on : y.change ≡ Change.Crash → {rows : List Tx} → rows ≡ crash_txs ts → Onward C1 rows
+      crashed-on e {rows} q = onward Change.Crash e rows (q ∙ ap crash_txs (sym (set-get_or ts i (tx 0 Fresh))))
 
   -- ---- after the loop
 

@@ -3,7 +3,7 @@
 use mathlib.Core.Path.{refl, ap, ◌∙◌}
 use Rattle.std.specs.Prelude.{Some}
 use Rattle.parts.proofs.Lent.{same-start, same-then}
-use Rattle.trace.proofs.Turned.{starts, asks, nothing-on, record-on, recovery-on, crash-on, through-end, through-stop}
+use Rattle.trace.proofs.Turned.{starts, asks, still-on, turned-on, recovering-on, crashed-on, through-end, through-stop}
 use Rattle.trace.proofs.run.go_through.Goals as goal
 
 pub loop-record-init : goal.loop-record-init
@@ -20,13 +20,13 @@ loop-record-preserved-in-Nothing c =
       same-then kept.0 c.turn-moved.ensures.rows,
       (c.turn-moved.ensures.page.0 ∙ kept.1.0, c.turn-moved.ensures.page.1 ∙ kept.1.1),
       (
-          nothing-on c.loop-record.reader c.loop-record.invariant.2 c.next-read.result c.next-read.ensures c.in-Some-Ok.record
+          still-on c.loop-record.reader c.loop-record.invariant.2 c.next-read.result c.next-read.ensures c.in-Some-Ok.record
           (c.in-Some-Ok.is ∙ ap Some (rw c.in-Some-Ok.is at c.in-Some-Ok.field-0-is)) c.slot-i.ensures.0 c.turn-moved.result c.turn-moved.ensures.moves c.turn-moved.ensures.brief c.in-Nothing.is).0,
     )
 
 pub loop-record-smaller-in-Nothing : goal.loop-record-smaller-in-Nothing
 loop-record-smaller-in-Nothing c =
-    (nothing-on c.loop-record.reader c.loop-record.invariant.2 c.next-read.result c.next-read.ensures c.in-Some-Ok.record
+    (still-on c.loop-record.reader c.loop-record.invariant.2 c.next-read.result c.next-read.ensures c.in-Some-Ok.record
     (c.in-Some-Ok.is ∙ ap Some (rw c.in-Some-Ok.is at c.in-Some-Ok.field-0-is)) c.slot-i.ensures.0 c.turn-moved.result c.turn-moved.ensures.moves c.turn-moved.ensures.brief c.in-Nothing.is).1
 
 pub loop-record-preserved-in-Record : goal.loop-record-preserved-in-Record
@@ -35,13 +35,13 @@ loop-record-preserved-in-Record c =
       same-then kept.0 c.turn-moved.ensures.rows,
       (c.turn-moved.ensures.page.0 ∙ kept.1.0, c.turn-moved.ensures.page.1 ∙ kept.1.1),
       (
-          record-on c.loop-record.reader c.loop-record.invariant.2 c.next-read.result c.next-read.ensures c.in-Some-Ok.record
+          turned-on c.loop-record.reader c.loop-record.invariant.2 c.next-read.result c.next-read.ensures c.in-Some-Ok.record
           (c.in-Some-Ok.is ∙ ap Some (rw c.in-Some-Ok.is at c.in-Some-Ok.field-0-is)) c.slot-i.ensures.0 c.turn-moved.result c.turn-moved.ensures.moves c.turn-moved.ensures.brief c.in-Record.is).0,
     )
 
 pub loop-record-smaller-in-Record : goal.loop-record-smaller-in-Record
 loop-record-smaller-in-Record c =
-    (record-on c.loop-record.reader c.loop-record.invariant.2 c.next-read.result c.next-read.ensures c.in-Some-Ok.record
+    (turned-on c.loop-record.reader c.loop-record.invariant.2 c.next-read.result c.next-read.ensures c.in-Some-Ok.record
     (c.in-Some-Ok.is ∙ ap Some (rw c.in-Some-Ok.is at c.in-Some-Ok.field-0-is)) c.slot-i.ensures.0 c.turn-moved.result c.turn-moved.ensures.moves c.turn-moved.ensures.brief c.in-Record.is).1
 
 pub loop-record-preserved-in-Recovery : goal.loop-record-preserved-in-Recovery
@@ -50,13 +50,13 @@ loop-record-preserved-in-Recovery c =
       same-then kept.0 c.turn-moved.ensures.rows,
       (c.turn-moved.ensures.page.0 ∙ kept.1.0, c.turn-moved.ensures.page.1 ∙ kept.1.1),
       (
-          recovery-on c.loop-record.reader c.loop-record.invariant.2 c.next-read.result c.next-read.ensures c.in-Some-Ok.record
+          recovering-on c.loop-record.reader c.loop-record.invariant.2 c.next-read.result c.next-read.ensures c.in-Some-Ok.record
           (c.in-Some-Ok.is ∙ ap Some (rw c.in-Some-Ok.is at c.in-Some-Ok.field-0-is)) c.slot-i.ensures.0 c.turn-moved.result c.turn-moved.ensures.moves c.turn-moved.ensures.brief c.in-Recovery.is).0,
     )
 
 pub loop-record-smaller-in-Recovery : goal.loop-record-smaller-in-Recovery
 loop-record-smaller-in-Recovery c =
-    (recovery-on c.loop-record.reader c.loop-record.invariant.2 c.next-read.result c.next-read.ensures c.in-Some-Ok.record
+    (recovering-on c.loop-record.reader c.loop-record.invariant.2 c.next-read.result c.next-read.ensures c.in-Some-Ok.record
     (c.in-Some-Ok.is ∙ ap Some (rw c.in-Some-Ok.is at c.in-Some-Ok.field-0-is)) c.slot-i.ensures.0 c.turn-moved.result c.turn-moved.ensures.moves c.turn-moved.ensures.brief c.in-Recovery.is).1
 
 pub loop-record-preserved : goal.loop-record-preserved
@@ -65,13 +65,13 @@ loop-record-preserved c =
       same-then kept.0 c.turn-moved.ensures.rows,
       (c.turn-moved.ensures.page.0 ∙ kept.1.0, c.turn-moved.ensures.page.1 ∙ kept.1.1),
       (
-          crash-on c.loop-record.reader c.loop-record.invariant.2 c.next-read.result c.next-read.ensures c.in-Some-Ok.record
+          crashed-on c.loop-record.reader c.loop-record.invariant.2 c.next-read.result c.next-read.ensures c.in-Some-Ok.record
           (c.in-Some-Ok.is ∙ ap Some (rw c.in-Some-Ok.is at c.in-Some-Ok.field-0-is)) c.slot-i.ensures.0 c.turn-moved.result c.turn-moved.ensures.moves c.turn-moved.ensures.brief c.in-Crash.is c.crash_if.ensures).0,
     )
 
 pub loop-record-smaller : goal.loop-record-smaller
 loop-record-smaller c =
-    (crash-on c.loop-record.reader c.loop-record.invariant.2 c.next-read.result c.next-read.ensures c.in-Some-Ok.record
+    (crashed-on c.loop-record.reader c.loop-record.invariant.2 c.next-read.result c.next-read.ensures c.in-Some-Ok.record
     (c.in-Some-Ok.is ∙ ap Some (rw c.in-Some-Ok.is at c.in-Some-Ok.field-0-is)) c.slot-i.ensures.0 c.turn-moved.result c.turn-moved.ensures.moves c.turn-moved.ensures.brief c.in-Crash.is c.crash_if.ensures).1
 
 pub returns-in-Some-Err-clause-through : goal.returns-in-Some-Err-clause-through
