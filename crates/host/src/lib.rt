@@ -12,6 +12,7 @@ use trace::replay_beside;
 
 // Puts what the program replay prints of a trace at the start of out, as much of it as there is room for, and gives the place after it.
 // No text is longer than 655,438 bytes. The rest of out stays as it is.
+// The lines of the program replay over again, with arrays of its own: document 01 has the arrays in the program.
 pub fn register_replay(trace: &[u8], out: &mut [u8]) -> usize
     ensures { buffer out.new result ≡ puts (buffer out.old 0) (printed trace.now) }
 {

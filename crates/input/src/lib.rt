@@ -26,8 +26,9 @@ pub fn read_full<R: Read>(reader: &mut R, bytes: &mut [u8]) -> (usize, io::Resul
     (got, Ok(()))
 }
 
-// Reads as far as IN bytes reach, and writes what the report puts into OUT bytes of them. Where a read fails, what stood before it is reported and written all the
-// same, and the error is given then.
+// Reads as far as IN bytes reach, hands what was read and a buffer of OUT bytes to the report, and writes as much of the buffer as that says. The promise speaks of
+// the case without an error. Where a read fails, what stood before it is reported and written all the same, and the error is given then, or that of the write if it
+// fails, too. The buffers are arrays, of which a part is used: nothing is allocated.
 pub fn report_input<const IN: usize, const OUT: usize, R, W, F>(
     reader: &mut R,
     writer: &mut W,

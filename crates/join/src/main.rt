@@ -24,7 +24,7 @@ fn owner(i: usize) -> u64
     if i < 17 { 0 } else { 1 }
 }
 
-// What is asked of a record: an operation is asked for, and then its lines are done one by one.
+// What is asked of a record: an operation is asked for, and then its lines are done one by one. By place, as the definition is, and so are the calls below.
 #[tactic(auto, unfolding(crate::specs::Join::ask_at))]
 fn ask_at(i: usize) -> Ask
     ensures { result ≡ ask_at i }
@@ -59,7 +59,8 @@ fn asked_at(i: usize) -> Call
     }
 }
 
-// Owns the store's four rows and lends them to each call; what is held beside them goes in and comes back. Gives the length of the text.
+// Owns the store's four rows and lends them to each call; what is held beside them goes in and comes back. Gives the length of the text, whose
+// buffer is an array of `main`: nothing is allocated.
 fn run(out: &mut [u8]) -> usize
     ensures { (buffer out.new result ≡ text_at out.old 46) × IsPrefixLen result out.new }
 {

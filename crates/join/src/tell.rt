@@ -46,7 +46,7 @@ fn put_answered(page: &mut Page, answer: Answered)
     }
 }
 
-// A word of a row; past its end, 0.
+// A word of a row; past its end, 0: one expression of the library.
 fn word(row: &[u32], i: usize) -> u64
     ensures { result ≡ get_or row.now i 0 }
 {

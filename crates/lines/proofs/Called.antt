@@ -16,7 +16,7 @@ use Rattle.dtml.specs.declared.Ask.TheVariants.{Begin, Read, Write, Commit, Step
 use Rattle.dtml.specs.declared.Phase.{Phase}
 use Rattle.dtml.specs.declared.Phase.TheVariants.{B1, R1, W1, E1}
 use Rattle.dtml.specs.declared.Recovery.{Recovery}
-use Rattle.dtml.specs.declared.Recovery.TheVariants.{Idle, C1, C2, C3, C4, C5, C6}
+use Rattle.dtml.specs.declared.Recovery.TheVariants.{Idle}
 use Rattle.dtml.specs.declared.Tx.{Tx}
 use Rattle.dtml.specs.Table.{says, reply}
 use Rattle.dtml.specs.Store.{Memory, tx, size}
@@ -26,6 +26,7 @@ use Rattle.dtml.specs.First.{any_of}
 use Rattle.dtml.specs.Checks.{unfit_memory, unfit_one, unfit_tx, not_idle, is_fresh, is_ready}
 use Rattle.dtml.specs.Calls.{ask}
 use Rattle.dtml.specs.Handed.{no-turn, a_turn, call_one}
+use Rattle.dtml.proofs.Words.{idle-is}
 use Rattle.parts.specs.Lent.{unfit_with}
 use Rattle.lines.specs.Turning.{turn_of, turned_of}
 use Rattle.lines.specs.Stepping.{step_of, ask_past, refusal_of}
@@ -71,15 +72,6 @@ recovering m r t Commit h = rw h (refusal (unfit_with m r t) false m)
 recovering m r t Step h = rw h (refusal (unfit_with m r t) false m)
 
 -- ---- while it is idle
-
-idle-is : (r : Recovery) → not_idle r ≡ false → r ≡ Idle
-idle-is Idle h = refl
-idle-is C1 h = cc
-idle-is C2 h = cc
-idle-is (C3 w v) h = cc
-idle-is (C4 w v) h = cc
-idle-is (C5 w v) h = cc
-idle-is C6 h = cc
 
 pub unfit-beside : (m : Memory) (r : Recovery) (t : Tx) (a : Ask) → not_idle r ≡ false → unfit_memory m Idle ≡ true
     → no-turn (says 9 0) m ≡ call_one m r t 0 a

@@ -10,6 +10,7 @@ use crate::turn::{Turn, to};
 use dtml::{Phase, Refusal, Tx};
 use parts::stages::{is_fresh, is_ready, stage};
 
+// Apart from `invoke`: another stage is asked for, and another refusal given.
 pub(crate) fn begin(tx: Tx) -> Result<Turn, Refusal>
     ensures { result ≡ pick (is_fresh (stage_of tx.phase)) (Ok (turn_of (Taken 0) tx.loc Phase.B1)) (Err Refusal.NotFresh) }
 {

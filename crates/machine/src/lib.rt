@@ -1,5 +1,7 @@
 // The step machine: every call of document 01 on a whole store, for all arguments. The three word rows and the row of the records are lent; the marks, the
 // count and recovery go in and out by value. A call that is refused changes nothing lent and gives these back as they came.
+// The rows are parameters of their own, since each is lent by itself. Beneath `call` they come in a `Memory`; as it has no recovery, and `Held` has no rows, each of
+// the two is put together field by field.
 
 #![tactic(auto)]
 

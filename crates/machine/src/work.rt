@@ -1,4 +1,4 @@
-// What a call does to all of the store but the lent row of records; of that row it is handed what was found of it.
+// What a call does to all of the store but the lent row of records; of that row it is handed the record that the call is on, or how long the row is.
 ghost use Rattle.std.specs.Prelude.{◌<◌, ◌≡◌, false, not, [], ◌∷◌, length, replicate, eqb};
 ghost use Rattle.dtml.specs.declared.Phase.TheVariants.{Fresh};
 ghost use Rattle.dtml.specs.Store.{tx as tx_of};
@@ -15,7 +15,7 @@ use parts::fit::unfit_rows;
 use parts::memory::Memory;
 use system::{Event, call_system};
 
-// The place of the record of an identifier; 0 where there is none.
+// The place of the record of an identifier; 0 where there is none. No `Option`: the call is then handed the first record, and gives it back as it is.
 pub fn place_of(id: u64) -> usize
     ensures { (result ≡ place_of id) × (result < 64) }
 {
@@ -25,7 +25,7 @@ pub fn place_of(id: u64) -> usize
     id as usize
 }
 
-// The place of the record that a call is on; 0 where it is on none.
+// The place of the record that a call is on; 0 where it is on none, as for an identifier that there is no record of.
 pub fn slot(call: Call) -> usize
     ensures { (result ≡ slot_of call) × (result < 64) }
 {
@@ -36,6 +36,7 @@ pub fn slot(call: Call) -> usize
 }
 
 // What a call leaves beside the memory: its answer, where recovery stands, its record, and whether it was a crash, which reaches every record.
+// A plain flag: what stands beside it is given either way.
 #[derive(Clone, Copy)]
 pub struct Worked {
     pub answer: Answered,
@@ -104,7 +105,7 @@ pub fn zero(row: &mut [u32])
     row.fill(0);
 }
 
-// The conditions on the lengths, of the word rows and of a row of so many records.
+// The conditions on the lengths, of the word rows and of a row of so many records. Making fresh looks at nothing else.
 fn unfit_lengths(vol: usize, pers: usize, old: usize, txs: usize) -> bool
     ensures { result ≡ any_of (unfit_rows vol pers old ∷ not (eqb txs 64) ∷ []) }
 {

@@ -1,9 +1,10 @@
 // Which words are in the log: one mark bit for each word, in four 64-bit numbers, which go by reference.
 // Word w has bit `w % 64` of number `w / 64`. A word of 256 or more is never marked, and marking it changes nothing.
+// They are an array, which has no methods of ours: what is done to them are functions.
 
 #![tactic(auto)]
 
-ghost use Rattle.std.specs.Prelude.{◌≡◌, ℕ, ◌≤◌, ◌<◌, ◌^◌, length, get_or};
+ghost use Rattle.std.specs.Prelude.{◌≡◌, ◌≤◌, ◌<◌};
 ghost use Rattle.bits.specs.Marks.{put, is_marked, mark_of, unmark_of, clear_of, count_of, lowest_of, stands_from};
 
 pub type Marks = [u64; 4];

@@ -43,7 +43,8 @@ pub(crate) fn held_numbers(held: Held) -> [u64; 8]
     ]
 }
 
-// What the numbers spell, if they are those that it is spelled by.
+// What the numbers spell, if they are those that it is spelled by: a number that is too large, a line that there is none of, or a word where
+// there is none, is told by one comparison.
 #[tactic(auto, using(crate::proofs::Beside::spelling), unfolding(crate::specs::Ways::spells_held))]
 pub(crate) fn read_held(held: &[u64]) -> Option<Held>
     ensures { result ≡ pick (spells_held held.now) (Some (held_spelt held.now)) None }

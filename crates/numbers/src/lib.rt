@@ -31,6 +31,7 @@ fn answered(value: &mut [u64], answer: Answered) -> u64
 }
 
 // A call, with its answer as it is. The five rows are parameters of their own throughout, as a host hands them over.
+// `machine::call` goes the same way over a row of records: what both do on a memory is `work`, and what stands around it is of each one's own rows.
 fn carried_out(
     vol: &mut [u32],
     pers: &mut [u32],
@@ -100,7 +101,8 @@ pub fn asked(
     number(carried_out(vol, pers, old, held, records, asked))
 }
 
-// Makes the store fresh, whatever the numbers were. The answer's value is always 0.
+// Makes the store fresh, whatever the numbers were. The answer's value is always 0. Two lengths that no type says are tested first, one after the
+// other; a `Result` in between would say the same in more lines.
 pub fn make_fresh(
     vol: &mut [u32],
     pers: &mut [u32],

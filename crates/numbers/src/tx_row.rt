@@ -1,4 +1,6 @@
 // The row of records: four numbers each, loc, the number of the phase, its word and its value.
+// `records` has `get`, `put`, `crash_if` and the test for a row of records. Here four numbers may spell none: a trait for both would have these methods, each with
+// two bodies of the same length, and laws besides.
 ghost use Rattle.std.specs.Prelude.{◌*◌, ◌<◌, ◌≡◌};
 ghost use Rattle.bits.specs.Marks.{pick};
 ghost use Rattle.dtml.specs.Store.{record_at};
@@ -47,7 +49,7 @@ pub(crate) fn put(records: &mut [u32; 256], i: usize, tx: Tx)
     records[at..at + 4].copy_from_slice(&tx_numbers(tx));
 }
 
-// The numbers spell no record, or an unfit one.
+// The numbers spell no record, or an unfit one; the first is told by one comparison with how what was read is spelled.
 #[tactic(auto, using(crate::proofs::Fours::same_is), unfolding(crate::specs::Ways::unfit_numbers))]
 fn unfit_numbers(n: usize, numbers: [u32; 4]) -> bool
     ensures { result ≡ unfit_numbers n numbers }
@@ -73,7 +75,7 @@ pub(crate) fn unfit_records(n: usize, records: &[u32; 256]) -> bool
     false
 }
 
-// If there was a crash, what it does to every record.
+// If there was a crash, what it does to every record, by place, as `put` is.
 #[tactic(auto, using(crate::proofs::Fours::crashes))]
 pub(crate) fn crash_if(records: &mut [u32; 256], crashed: bool)
     ensures { records.new ≡ pick crashed (crash_numbers records.old) records.old }

@@ -126,7 +126,7 @@ impl Kind {
     }
 }
 
-// A byte of what was read; past its end, 0.
+// A byte of what was read; past its end, 0: one expression of the library.
 fn byte_at(bytes: &[u8], i: usize) -> u8
     ensures { result ≡ get_or bytes.now i 0 }
 {
@@ -143,6 +143,7 @@ fn times(e: u8) -> u64
 }
 
 // Owns the 64 records, and lends them and the rows that it was lent to so many calls; what is held beside them goes in and comes back.
+// The rows are parameters of their own, as `machine::call` has them.
 #[tactic(auto, using(crate::proofs::Reports::one_more), unfolding(crate::specs::Pace::calls))]
 fn call_on(
     vol: &mut [u32],
@@ -165,6 +166,7 @@ fn call_on(
 }
 
 // Owns the word rows of a store, of which it lends as much as the store has, for so many steps of transaction 0; gives the last answer.
+// They are arrays, since nothing is allocated.
 #[tactic(auto, using(crate::proofs::Reports::lent))]
 fn answer_of(kind: Kind, times: u64) -> Answered
     ensures { reply result ≡ (last_of kind times).reply }

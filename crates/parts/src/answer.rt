@@ -4,6 +4,7 @@ ghost use Rattle.dtml.specs.Table.{reply};
 
 use dtml::{Answer, Answered, Refusal};
 
+// It and `value` are no `From`, which cannot be had for `Result`, a foreign type; and some ask for the number alone.
 pub fn number(a: Answered) -> u64
     ensures { result ≡ (reply a).number }
 {

@@ -6,7 +6,7 @@ ghost use Rattle.dtml.specs.Checks.{unfit_rows, unfit_recovery, unfit_tx, names_
 use dtml::{Phase, Recovery, Tx};
 use marks::Marks;
 
-// The lengths of the three word rows do not fit.
+// The lengths of the three word rows do not fit. They alone decide, also where a store is only made fresh, so they and no `Memory` are handed over.
 pub fn unfit_rows(vol: usize, pers: usize, old: usize) -> bool
     ensures { result ≡ unfit_rows vol pers old }
 {
@@ -22,7 +22,7 @@ pub fn unfit_rows(vol: usize, pers: usize, old: usize) -> bool
     256 < vol
 }
 
-// The word that a phase names, if it names one.
+// The word that a phase names, if it names one: an arm for each that does, as the definition has a clause for each.
 fn word_of(p: Phase) -> Option<u32>
     ensures { result ≡ pick (names_word p) (Some (word_of p)) None }
 {
@@ -46,7 +46,7 @@ pub fn phase_past(n: usize, p: Phase) -> bool
     word_of(p).is_some_and(|word| n <= word as usize)
 }
 
-// Recovery names a word at n or above, or is at C2 with no mark.
+// Recovery names a word at n or above, or is at C2 with no mark; an arm for each line, as the definition has a clause for each.
 pub fn unfit_recovery(n: usize, marks: &Marks, recovery: Recovery) -> bool
     ensures { result ≡ unfit_recovery n marks.now recovery }
 {

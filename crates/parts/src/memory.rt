@@ -8,6 +8,9 @@ use crate::fit::{unfit_recovery, unfit_rows, unfit_tx};
 use dtml::{Recovery, Tx};
 use marks::Marks;
 
+// Each function that changes a memory promises that the same rows stand in it after (`SameRows`): an invariant speaks of one value, and this is of the value before
+// and the value after.
+// Recovery is no field: it goes in by value beside the memory, and what a call gives back says if it is changed, so that a loop stores it only then.
 #[derive(Drop)]
 pub struct Memory<'a> {
     pub vol: &'a mut [u32],

@@ -10,7 +10,7 @@ ghost use Rattle.reader.specs.Said.{read as read_as};
 use crate::{Record, TraceRefusal};
 use dtml::{Ask, Call, Sys};
 
-// Big-endian numbers.
+// Big-endian numbers. `from_be_bytes` is of each number type and of no trait, so one function for both would need a trait of its own and be longer.
 pub(crate) fn two(s: &[u8], i: usize) -> u16
     requires { i + 1 < length s.now }
     ensures { result ≡ two_of s.now i }
@@ -25,7 +25,8 @@ fn four(s: &[u8], i: usize) -> u32
     u32::from_be_bytes([s[i], s[i + 1], s[i + 2], s[i + 3]])
 }
 
-// A whole body; its first byte is the kind.
+// A whole body; its first byte is the kind, and a match on it leads to each kind's own decoder, the unknown ones as the rest: a type for the kinds would be matched
+// on once more.
 #[tactic(auto, unfolding(crate::specs::Trace::of_kind))]
 pub(crate) fn record(body: &[u8]) -> Result<Record, TraceRefusal>
     requires { 0 < length body.now }

@@ -33,13 +33,14 @@ pub struct Record {
 pub type Item = Option<Result<Record, TraceRefusal>>;
 
 // What stands at a place, and the place after it: past a record that asks for something; else there is nothing to go past, and it is the same place.
+// A place and not a `Reader`, as `place::Read` has it, for those who have the trace apart.
 #[derive(Clone, Copy)]
 pub struct Seen {
     pub item: Item,
     pub after: usize,
 }
 
-// The number that a refusal is printed as.
+// The number that a refusal is printed as, by the same name as that of an answer, `parts::answer::number`; so it is no `From`.
 pub fn number(refusal: TraceRefusal) -> u64
     ensures { result ≡ number_of refusal }
 {

@@ -35,7 +35,7 @@ pub fn next<'a>(reader: Reader<'a>) -> Read<'a>
     }
 }
 
-// The same for a caller that has the bytes and the place apart.
+// The same with plain parameters, for a caller that has the bytes and the place apart.
 pub fn read_at(trace: &[u8], at: usize) -> Seen
     ensures { (item result.item ≡ found (drop at trace.now))
         × (result.after ≡ place_after at (found (drop at trace.now))) }

@@ -15,6 +15,7 @@ use dtml::Tx;
 use parts::fit::unfit_tx;
 use system::crash_tx;
 
+// One expression of the library.
 pub fn get(txs: &[Tx], i: usize) -> Tx
     ensures { result ≡ record_at txs.now i }
 {
@@ -45,7 +46,7 @@ pub fn unfit(txs: &[Tx], n: usize) -> bool
     false
 }
 
-// If there was a crash, what it leaves of the records.
+// If there was a crash, what it leaves of the records. The test stands in here, so that only this crate takes a lent row apart.
 #[tactic(auto, using(crate::proofs::Over::crashing))]
 pub fn crash_if(txs: &mut [Tx], crashed: bool)
     ensures { txs.new ≡ pick crashed (crash_txs txs.old) txs.old }

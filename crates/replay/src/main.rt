@@ -13,6 +13,8 @@ use std::io;
 use trace::replay_beside;
 
 // Puts what is printed of a trace at the start of out, which has room for any, and gives its length.
+// The three rows are arrays of the program's own, of which it lends the first N words each: document 01 has it so for the program, and `host` and `replay_lent` have
+// arrays of their own.
 fn report(trace: &[u8], out: &mut [u8]) -> usize
     requires { length out.old ≡ 655438 }
     ensures { (out.new ≡ printed trace.now ++ drop result out.old)

@@ -18,7 +18,8 @@ use machine::work::blank;
 use reader::trace::header;
 use std::io;
 
-// Owns the 64 records and lends them, for a replay on rows that were lent; gives the length of its text.
+// Owns the 64 records and lends them, for a replay on rows that were lent; gives the length of its text. The
+// rows are parameters of their own, as `trace::replay` has them.
 fn on_records(
     trace: &[u8],
     vol: &mut [u32],
@@ -36,6 +37,8 @@ fn on_records(
 }
 
 // Puts what is printed of a trace at the start of out, which has room for any, and gives its length.
+// The three rows are arrays of the program's own, of which it lends the first N words each: document 01 has it so for the program replay, and this one and `host`
+// have arrays of their own.
 fn report(trace: &[u8], out: &mut [u8]) -> usize
     requires { length out.old ≡ 655438 }
     ensures { (out.new ≡ printed trace.now ++ drop result out.old)

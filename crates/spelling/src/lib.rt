@@ -1,5 +1,6 @@
 // Phases and recovery as numbers, for hosts in other languages; specs/Spelling.antt has the table of both.
-// Each has its own table both ways; a trait over the two would only name the four functions again, so there is none.
+// Each has its own table both ways; a trait over the two would only name the four functions again, so there is none. They have the names of the
+// definitions: `From` would name none, and `TryFrom` would refuse what is read here as fresh or idle.
 
 #![tactic(auto)]
 
@@ -51,7 +52,8 @@ pub fn spell_phase(p: Phase) -> Spelt
     }
 }
 
-// The phase of that number, with the word and the value that it carries; Fresh where no phase has it.
+// The phase of that number, with the word and the value that it carries; Fresh where no phase has it. No `Option`: whoever asks if
+// the numbers spell a phase spells again what was read, and compares number, word and value at once (`numbers`).
 #[tactic(auto, using(crate::proofs::Rest::no_phase), unfolding(crate::specs::Spelling::read_phase))]
 pub fn read_phase(s: Spelt) -> Phase
     ensures { result ≡ read_phase s }
@@ -98,7 +100,7 @@ pub fn spell_recovery(recovery: Recovery) -> Spelt
     }
 }
 
-// Recovery at that line, with the word and the value that it has chosen; idle where there is no such line.
+// Recovery at that line, with the word and the value that it has chosen; idle where there is no such line, which is found as for a phase.
 #[tactic(auto, using(crate::proofs::Rest::no_line), unfolding(crate::specs::Spelling::read_recovery))]
 pub fn read_recovery(s: Spelt) -> Recovery
     ensures { result ≡ read_recovery s }
@@ -120,6 +122,7 @@ pub fn read_recovery(s: Spelt) -> Recovery
     }
 }
 
+// The derived equality, by its name in the definitions.
 #[tactic(auto, unfolding(crate::specs::Spelling::same_spelling))]
 pub fn same_spelling(a: Spelt, b: Spelt) -> bool
     ensures { result ≡ same_spelling a b }

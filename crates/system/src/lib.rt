@@ -20,7 +20,7 @@ use parts::memory::Memory;
 use parts::stages::{is_live, not_idle, stage};
 
 // What a call that is carried out gives back: it was a flush, which leaves recovery where it stands; or a crash, which leaves it at C1 and reaches every
-// record (`crash_tx`); or so many recovery lines.
+// record (`crash_tx`); or so many recovery lines. The lines stand beside the answer, since that of a single line has the value 0.
 #[derive(Clone, Copy)]
 pub enum Event {
     Flushed,
@@ -52,7 +52,7 @@ fn unfit_now(memory: &Memory, recovery: Recovery) -> bool
     memory.unfit_idle()
 }
 
-// Each call tests what it is handed.
+// Each call tests what it is handed: with the test before the match on the call, the table of recovery lines was in the way of every flush.
 fn flush(memory: &mut Memory, recovery: Recovery, word: u32) -> Result<Event, Refusal>
     ensures same { SameRows memory.old memory.new }
     ensures left { happened_of result (memory_of memory.new) ≡ call_system (memory_of memory.old) recovery (flush_asked word) }
@@ -111,7 +111,8 @@ fn recover(memory: &mut Memory, recovery: Recovery) -> Result<Event, Refusal>
     Ok(lines_done(recovery_line(memory, recovery), 1))
 }
 
-// As many recovery lines as the allowance, or all that are left up to and with C6 if those are fewer.
+// As many recovery lines as the allowance, or all that are left up to and with C6 if those are fewer. In both answers that
+// the lines can have, the value is how many they are.
 fn recover_up_to(memory: &mut Memory, recovery: Recovery, allowance: u64) -> Result<Event, Refusal>
     ensures same { SameRows memory.old memory.new }
     ensures left { happened_of result (memory_of memory.new) ≡ call_system (memory_of memory.old) recovery (recover_up_to allowance) }

@@ -2,12 +2,14 @@
 
 #![tactic(auto)]
 
-ghost use Rattle.std.specs.Prelude.{◌+◌, ◌^◌, ◌≤◌, ◌<◌, ◌≡◌, true, [], ◌∷◌, ◌++◌, length};
+ghost use Rattle.std.specs.Prelude.{◌+◌, ◌≤◌, ◌<◌, ◌≡◌, true, [], ◌∷◌, ◌++◌, length};
 ghost use Rattle.text.specs.Text.{decimal, answer_line, stop_line, totals_line};
 ghost use Rattle.text.specs.Buffer.{put, puts};
 ghost use Rattle.text.specs.Page.{LendsSame, on_page};
 
 // A lent buffer, and the place up to which text stands in it. Each method puts its text there and moves the place behind it; a full buffer stays as it is.
+// Each function that puts text promises that the same buffer stands in it after (`LendsSame`): an invariant speaks of one value, and this is of the value before and
+// the value after.
 #[derive(Drop)]
 pub struct Page<'a> {
     pub bytes: &'a mut [u8],
@@ -36,7 +38,8 @@ impl<'a> Page<'a> {
         }
     }
 
-    // A number below 10 is one digit; any other is the digits of n / 10, and then one more.
+    // A number below 10 is one digit; any other is the digits of n / 10, and then one more. Not by `write!`: what there is no room
+    // for is left out here, and is no error.
     pub fn put_decimal(&mut self, n: u64)
         ensures same { LendsSame self.old self.new }
         ensures text { on_page self.new ≡ puts (on_page self.old) (decimal n) }
@@ -49,7 +52,7 @@ impl<'a> Page<'a> {
         self.put_byte(b'0' + (n % 10) as u8);
     }
 
-    // A number, and the byte after it.
+    // A number, and the byte after it, each byte tested for room.
     fn put_field(&mut self, n: u64, end: u8)
         ensures same { LendsSame self.old self.new }
         ensures text { on_page self.new ≡ puts (on_page self.old) (decimal n ++ (end ∷ [])) }
@@ -58,7 +61,8 @@ impl<'a> Page<'a> {
         self.put_byte(end);
     }
 
-    // A number's digits, the last one first, where there is room for ten.
+    // A number's digits, the last one first, where there is room for ten: as `put_decimal` puts them, but no byte is tested for room. By place, from behind, since a
+    // division gives the last digit first.
     fn put_digits(&mut self, n: u32)
         requires { self.old.at + 10 ≤ length self.old.bytes.now }
         ensures same { LendsSame self.old self.new }
@@ -74,7 +78,8 @@ impl<'a> Page<'a> {
         self.at = at + width;
     }
 
-    // A number, and the byte after it, where there is room for eleven bytes. Most numbers of a line are one digit.
+    // A number, and the byte after it, where there is room for eleven bytes. Most numbers of a line are one digit, which is put without a count of
+    // digits; otherwise as `put_field` puts it, but no byte is tested for room.
     fn put_short(&mut self, n: u32, end: u8)
         requires { self.old.at + 11 ≤ length self.old.bytes.now }
         ensures same { LendsSame self.old self.new }

@@ -145,7 +145,7 @@ module _ (m : Memory) (r : Recovery) (t : Tx) (n : Totals) (o : Buffer) where
 
 -- ---- a refusal's number
 
--- a refusal's number is none of 0
+-- a refusal's number is not 0
 stop-number : (k : TraceRefusal) (j : ℕ) → pick (eqb (number_of k) 0) 0 j ≡ j
 stop-number UnknownKind j = refl
 stop-number WrongLength j = refl

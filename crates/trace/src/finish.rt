@@ -11,6 +11,7 @@ use machine::Held;
 use reader::{TraceRefusal, number};
 use text::Page;
 
+// By the name of its definition, and so no `From`.
 fn stop_number(refusal: ReplayRefusal) -> u64
     ensures { result ≡ stop_number refusal }
 {

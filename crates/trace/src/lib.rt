@@ -1,4 +1,4 @@
-// Replays a trace on a store that is lent.
+// Replays a trace on a store that is lent. The rows are parameters of their own, since each is lent by itself; beneath they come in a `Memory`.
 
 #![tactic(auto)]
 
@@ -21,6 +21,7 @@ use reader::trace::header;
 use text::Page;
 
 // Some word row is not as long as the header's N, or the row of records is not 64 long; vol, pers, old and txs are the rows' lengths.
+// Lengths and no rows, here and below, since the row of records may not be lent.
 fn unfit_for(n: usize, vol: usize, pers: usize, old: usize, txs: usize) -> bool
     ensures { result ≡ misfit vol pers old txs n }
 {
@@ -61,6 +62,7 @@ pub fn replay_beside(
     let mut page = Page { bytes: out, at: 0 };
     match begun(trace, vol.len(), pers.len(), old.len(), txs) {
         Ok(_) => {
+            // Not by `machine::work::renew`, which would test the lengths once more.
             zero(vol);
             zero(pers);
             zero(old);

@@ -1,18 +1,15 @@
 // The records of a trace, done one by one.
-ghost use Rattle.std.specs.Prelude.{◌+◌, ◌≤◌, ◌<◌, ◌≡◌, Some, length, replicate, eqb};
+ghost use Rattle.std.specs.Prelude.{◌+◌, ◌≤◌, ◌<◌, ◌≡◌, Some, length, eqb};
 ghost use Rattle.bits.specs.Marks.{pick, count_of};
 ghost use Rattle.dtml.specs.Table.{reply};
-ghost use Rattle.dtml.specs.declared.Phase.TheVariants.{Fresh};
 ghost use Rattle.dtml.specs.declared.Call.{Call};
 ghost use Rattle.dtml.specs.declared.Call.TheVariants.{On as on, Of as sys_asked};
-ghost use Rattle.dtml.specs.Store.{store, fresh, tx as tx_of};
 ghost use Rattle.dtml.specs.Checks.{not_idle};
 ghost use Rattle.parts.specs.Lent.{memory_of, SameRows};
 ghost use Rattle.reader.specs.Trace.{script_of};
-ghost use Rattle.text.specs.Buffer.{buffer, puts};
+ghost use Rattle.text.specs.Buffer.{puts};
 ghost use Rattle.text.specs.Page.{LendsSame, on_page};
 ghost use Rattle.day.specs.Replay.{totals as totals_from, answer_text, done as done_of};
-ghost use Rattle.day.specs.Ends.{Ends};
 ghost use Rattle.day.specs.Counted.{Few};
 ghost use Rattle.trace.specs.Turning.{call_moment, moment_of, OneLine, Brief, Through, Ready, Runs};
 
@@ -39,7 +36,8 @@ fn commits(answer: Answered) -> u64
     u64::from(matches!(answer, Ok(Answer::Committed)))
 }
 
-// The numbers of the T line after a call on a record.
+// The numbers of the T line after a call on a record. Here and below they are few by the trace, which is no longer than 65,536 bytes, and not by `Totals`, which
+// counts without a bound. No methods, since `Totals` stands in `day`, which has no code of a replay.
 fn turned(totals: Totals, answer: Answered) -> Totals
     requires { Few 65536 totals }
     ensures { result ≡ totals_from (totals.records + 1) totals.crashes totals.lines totals.cut (totals.committed + pick (eqb (reply answer).number 4) 1 0) }
@@ -75,7 +73,8 @@ fn cut_by_crash(recovery: Recovery, marks: &Marks) -> u64
     marks::count(marks)
 }
 
-// The line of a record that was answered other than 0.
+// The line of a record that was answered other than 0. It and the next are two, so that `put_answer` has two callers: with one it is inlined into the test here, and
+// the answer is then kept in memory.
 fn put_answer_if(page: &mut Page, record_number: u64, answer: Answer)
     requires { record_number < 100000 }
     ensures same { LendsSame page.old page.new }
@@ -203,6 +202,8 @@ fn on_none(
 }
 
 // One record of the trace; tx is the transaction's record that its call is on.
+// Here and in the two above, the numbers, recovery and tx are no struct with the memory and the page: they go in by value, and what is changed comes back, so that the
+// loop stores no more than that.
 fn turn(
     memory: &mut Memory,
     page: &mut Page,
@@ -224,7 +225,8 @@ fn turn(
     }
 }
 
-// The loop holds the reader, which moves on past each record.
+// The loop holds the reader, which `next` gives back moved on past each record. Its breaks say why it ends, so that `next` is called at one place: with a second
+// call, a replay took twice as long.
 fn go_through(trace: &[u8], memory: &mut Memory, page: &mut Page) -> Reached
     requires { Ready trace.now (memory_of memory.old) page.old.at }
     ensures rows { SameRows memory.old memory.new }
@@ -253,6 +255,7 @@ fn go_through(trace: &[u8], memory: &mut Memory, page: &mut Page) -> Reached
             Change::Recovery { recovery: next } => recovery = next,
             Change::Crash => {
                 recovery = Recovery::C1;
+                // There was a crash: the test in `crash_if` is for those who lend a row.
                 crash_if(&mut rows, true);
             }
         }
