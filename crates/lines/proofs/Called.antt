@@ -3,7 +3,6 @@
 use Prim.Native.Nat.{ℕ, ◌<◌}
 use mathlib.Core.Path.{◌≡◌, refl, sym, ◌∙◌}
 use mathlib.Core.Bool.{Bool, true, false, not}
-use mathlib.Core.List.{[], ◌∷◌}
 use borrow.Author.Tests.{lt-leb}
 use lib.Dec.{leb}
 use Rattle.std.specs.Prelude.{Ok, Err}
@@ -22,7 +21,6 @@ use Rattle.dtml.specs.Table.{says, reply}
 use Rattle.dtml.specs.Store.{Memory, tx, size}
 use Rattle.dtml.specs.Asked.{did}
 use Rattle.dtml.specs.Lines.{stage}
-use Rattle.dtml.specs.First.{any_of}
 use Rattle.dtml.specs.Checks.{unfit_memory, unfit_one, unfit_tx, not_idle, is_fresh, is_ready}
 use Rattle.dtml.specs.Calls.{ask}
 use Rattle.dtml.specs.Handed.{no-turn, a_turn, call_one}
@@ -48,11 +46,6 @@ no_record m r t i a past = rw past (nobody-there (unfit_with m r t) m)
 pub any-there : (m : Memory) (r : Recovery) (t : Tx) (i : ℕ) (a : Ask) → i < 64 → call_one m r t 0 a ≡ call_one m r t i a
 unfolding call_one
 any-there m r t i a there = rw (lt-leb 64 i there)
-
--- unfit beside the record or in it, whichever is looked at first
-pub unfit-own : (beside own : Bool) → own ≡ true → any_of (beside ∷ own ∷ []) ≡ true
-unfit-own true own h = refl
-unfit-own false own h = rw h
 
 -- ---- while recovery is under way
 

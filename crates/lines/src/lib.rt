@@ -35,13 +35,10 @@ fn past(n: usize, ask: Ask) -> bool
 fn nobody(memory: &Memory, recovery: Recovery, tx: Tx) -> Refusal
     ensures { result ≡ pick (unfit_with (memory_of memory.now) recovery tx) Refusal.Unfit Refusal.NoRecord }
 {
-    if unfit_tx(memory.vol.len(), tx) {
-        return Refusal::Unfit;
+    if !memory.unfit_one(recovery, tx) {
+        return Refusal::NoRecord;
     }
-    if memory.unfit_beside(recovery) {
-        return Refusal::Unfit;
-    }
-    Refusal::NoRecord
+    Refusal::Unfit
 }
 
 // Why any call on a record is refused while recovery is under way.

@@ -26,9 +26,8 @@ fn put_stop_if(page: &mut Page, stopped: Option<Stopped>)
     ensures same { LendsSame page.old page.new }
     ensures text { on_page page.new ≡ puts (on_page page.old) (stop_text (refusal_in stopped) (record_in stopped)) }
 {
-    match stopped {
-        Some(stop) => page.put_stop(stop_number(stop.refusal), stop.number),
-        None => {}
+    if let Some(stop) = stopped {
+        page.put_stop(stop_number(stop.refusal), stop.number);
     }
 }
 
@@ -65,11 +64,8 @@ pub(crate) fn stopped_at(refusal: Option<TraceRefusal>, records: u64) -> Option<
     requires { records < 65536 }
     ensures { result ≡ stopped_at refusal records }
 {
-    match refusal {
-        Some(refusal) => Some(Stopped {
-            refusal: ReplayRefusal::from(refusal),
-            number: records + 1,
-        }),
-        None => None,
-    }
+    refusal.map(|refusal| Stopped {
+        refusal: ReplayRefusal::from(refusal),
+        number: records + 1,
+    })
 }

@@ -2,6 +2,6 @@
 use Rattle.text.specs.Buffer.{puts}
 use Rattle.trace.proofs.finish.put_stop_if.Goals as goal
 
-pub returns-in-None-clause-text : goal.returns-in-None-clause-text
+pub returns-in_default-clause-text : goal.returns-in_default-clause-text
 unfolding puts
-returns-in-None-clause-text c = rw c.in-None.is
+returns-in_default-clause-text c = rw c.in_default.is
