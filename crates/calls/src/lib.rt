@@ -4,6 +4,7 @@
 // Each call gives the answer's number. Its value is 0 but for a step and for recovery with an allowance, so only these take a row for it: the value is put into
 // the row's first number, if there is one; a refused call (9 or above) leaves that row, too, as it was.
 // Here are the calls on a transaction's record, and in `events` those on none. The crate `calls_c` exports them under the same names.
+// C has no enum with values, so each call has a function of its own, and they differ in what is asked alone.
 
 #![tactic(auto)]
 

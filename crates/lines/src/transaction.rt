@@ -1,5 +1,6 @@
 // The lines of a transaction, B1 to E3, on its record. Each is handed loc and what its phase carries, the word, the value or both. That the word is in the rows is
-// part of `Room`, which `line` asks for; of that each line asks only what it needs.
+// part of `Room`, which `line` asks for; of that each line asks only what it needs. A function for each
+// line, as the figure has them, also where two differ only in what they give.
 ghost use Rattle.std.specs.Prelude.{◌≡◌, ◌+◌, ◌<◌, ◌≤◌, length, get_or, set, eqb};
 ghost use Rattle.bits.specs.Marks.{pick, is_marked, mark_of, clear_of};
 ghost use Rattle.dtml.specs.Lines.{even, flush_of};

@@ -15,10 +15,7 @@ pub struct Turn {
 pub(crate) fn to(loc: u32, phase: Phase) -> Turn
     ensures { result ≡ turn_of (Answer.Taken 0) loc phase }
 {
-    Turn {
-        answer: Answer::Taken { lines: 0 },
-        tx: Tx { loc, phase },
-    }
+    answered(Answer::Taken { lines: 0 }, loc, phase)
 }
 
 pub(crate) fn answered(answer: Answer, loc: u32, phase: Phase) -> Turn

@@ -40,7 +40,7 @@ pub struct After {
     pub held: Held,
 }
 
-// Making a store fresh.
+// Making a store fresh. The row of records goes to `store_if`, so that only `records` takes it apart.
 pub fn make_fresh(
     vol: &mut [u32],
     pers: &mut [u32],

@@ -115,7 +115,7 @@ fn unfit_lengths(vol: usize, pers: usize, old: usize, txs: usize) -> bool
     txs != 64
 }
 
-// Making fresh the word rows, beside a row of so many records.
+// Making fresh the word rows, beside a row of so many records. Rows and no `Memory`: nothing else is looked at.
 pub fn renew(vol: &mut [u32], pers: &mut [u32], old: &mut [u32], txs: usize) -> Result<(), Refusal>
     ensures { renewed_of result vol.new pers.new old.new ≡ renewed vol.old pers.old old.old txs }
 {

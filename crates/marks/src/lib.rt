@@ -1,6 +1,7 @@
 // Which words are in the log: one mark bit for each word, in four 64-bit numbers, which go by reference.
 // Word w has bit `w % 64` of number `w / 64`. A word of 256 or more is never marked, and marking it changes nothing.
-// They are an array, which has no methods of ours: what is done to them are functions.
+// They are four numbers, as document 01 has them, in an array, which has no methods of ours: what is done to them are functions. Loops and no chains of iterators:
+// the closures of a chain would have clauses of their own, with the loop's body in them once more.
 
 #![tactic(auto)]
 
@@ -68,7 +69,7 @@ pub fn count(m: &Marks) -> u64
     marked
 }
 
-// The lowest marked word; 256 where no word is marked.
+// The lowest marked word; 256 where no word is marked. No `Option`: the definition gives that number, and who asks stands at C2, where a word is marked.
 #[tactic(auto, using(crate::proofs::Row::seeking))]
 pub fn lowest(m: &Marks) -> u64
     ensures { result ≡ lowest_of m.now }

@@ -86,7 +86,7 @@ pub fn call(
     answered(value, carried_out(vol, pers, old, held, records, asked))
 }
 
-// A call whose value is not asked for.
+// A call whose value is not asked for: for hosts that have no row for it.
 pub fn asked(
     vol: &mut [u32],
     pers: &mut [u32],
@@ -102,7 +102,7 @@ pub fn asked(
 }
 
 // Makes the store fresh, whatever the numbers were. The answer's value is always 0. Two lengths that no type says are tested first, one after the
-// other; a `Result` in between would say the same in more lines.
+// other. In a function of its own, as `carried_out` is, the promise would stand twice for one caller.
 pub fn make_fresh(
     vol: &mut [u32],
     pers: &mut [u32],

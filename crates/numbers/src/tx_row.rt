@@ -61,7 +61,7 @@ fn unfit_numbers(n: usize, numbers: [u32; 4]) -> bool
     unfit_tx(n, tx)
 }
 
-// Some do so.
+// Some do so. A loop and no `any`, as in `records::unfit`.
 #[tactic(auto, using(crate::proofs::Fours::looking))]
 pub(crate) fn unfit_records(n: usize, records: &[u32; 256]) -> bool
     ensures { result ≡ unfit_records n records.now }

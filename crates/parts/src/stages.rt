@@ -16,6 +16,7 @@ pub fn stage(p: Phase) -> Stage
     }
 }
 
+// Each test is one `matches!`, by its definition's name.
 pub fn is_fresh(s: Stage) -> bool
     ensures { result ≡ is_fresh s }
 {

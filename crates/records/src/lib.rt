@@ -30,7 +30,7 @@ pub fn put(txs: &mut [Tx], i: usize, tx: Tx)
     }
 }
 
-// The row is not 64 long, or some record of it is unfit beside rows of n words.
+// The row is not 64 long, or some record of it is unfit beside rows of n words. A loop and no `any`, whose closure would have a clause that says its body once more.
 #[tactic(auto, using(crate::proofs::Over::looking))]
 pub fn unfit(txs: &[Tx], n: usize) -> bool
     ensures { result ≡ any_of (not (eqb (length txs.now) 64) ∷ unfit_txs n txs.now ∷ []) }

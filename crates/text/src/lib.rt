@@ -109,7 +109,7 @@ impl<'a> Page<'a> {
         self.put_short(value, b'\n');
     }
 
-    // Room for three numbers of at most ten digits, and the byte after each.
+    // Room for three numbers of at most ten digits, and the byte after each: tested once, here; of that each method above asks what it fills.
     fn has_room_for_line(&self) -> bool
         ensures { result ≡ true → self.now.at + 33 ≤ length self.now.bytes.now }
     {

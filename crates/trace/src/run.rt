@@ -155,7 +155,7 @@ fn on_record(
     }
 }
 
-// The same of a call on none.
+// The same of a call on none. It counts other numbers, by another law, so what looks alike in the two stands in each.
 fn on_none(
     memory: &mut Memory,
     page: &mut Page,

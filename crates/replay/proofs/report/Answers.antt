@@ -1,4 +1,4 @@
--- `replay::report` meets its contract: the rows lent are as long as the header says, and the buffer has room for the text.
+-- `replay::report` meets its contract: the rows lent are as long as the header says, and the buffer has room for the text. As in the other programs that replay, the goals are answered by one law each.
 use mathlib.Core.Path.{sym}
 use lib.Seq.{length-take-le}
 use Rattle.day.proofs.Shown.{few_words, shown}
