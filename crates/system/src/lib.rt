@@ -86,12 +86,14 @@ fn flush(
     Ok(Event::Flushed)
 }
 
-// What a crash does to the volatile words.
+// What a crash does to the volatile words. Word by word: `copy_from_slice` would have every host of the static libraries link `memmove` besides.
 fn restart(vol: &mut [u32], pers: &[u32])
     requires { length vol.old ≡ length pers.now }
     ensures { vol.new ≡ pers.now }
 {
-    vol.copy_from_slice(pers);
+    for i in 0..pers.len() {
+        vol[i] = pers[i];
+    }
 }
 
 fn crash(
