@@ -4,8 +4,9 @@
 #![tactic(auto)]
 
 mod recovery;
+mod words;
 
-ghost use Rattle.std.specs.Prelude.{◌≡◌, length};
+ghost use Rattle.std.specs.Prelude.{◌≡◌};
 ghost use Rattle.dtml.specs.Store.{memory};
 ghost use Rattle.dtml.specs.Lines.{crash_tx};
 ghost use Rattle.dtml.specs.declared.Sys.TheVariants.{Flush as flush_asked, Crash as crash_asked, Recover as recover_asked, RecoverUpTo as recover_up_to};
@@ -15,6 +16,7 @@ ghost use Rattle.parts.specs.Lent.{memory_of, SameRows};
 ghost use Rattle.system.specs.Recovering.{happened_of, refused_in};
 
 use crate::recovery::{RecoveryTurn, recovery_line, recovery_lines};
+use crate::words::copy;
 use dtml::{Answer, Phase, Recovery, Refusal, Sys, Tx};
 use marks::Marks;
 use parts::answer::value;
@@ -86,16 +88,6 @@ fn flush(
     Ok(Event::Flushed)
 }
 
-// What a crash does to the volatile words. Word by word: `copy_from_slice` would have every host of the static libraries link `memmove` besides.
-fn restart(vol: &mut [u32], pers: &[u32])
-    requires { length vol.old ≡ length pers.now }
-    ensures { vol.new ≡ pers.now }
-{
-    for i in 0..pers.len() {
-        vol[i] = pers[i];
-    }
-}
-
 fn crash(
     vol: &mut [u32],
     pers: &[u32],
@@ -110,7 +102,7 @@ fn crash(
     if unfit_beside(vol.len(), pers.len(), old.len(), marks, *glb, recovery) {
         return Err(Refusal::Unfit);
     }
-    restart(vol, pers);
+    copy(vol, pers);
     *glb = 0;
     Ok(Event::Crashed)
 }

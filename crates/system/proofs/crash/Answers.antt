@@ -8,9 +8,9 @@ pub returns-then-unfit_beside : goal.returns-then-unfit_beside
 unfolding call_system
 returns-then-unfit_beside c = rw (← c.unfit_beside.ensures, c.if-unfit_beside.true)
 
-pub restart-requires : goal.restart-requires
-restart-requires c = sym (fits _ _ _ _ _ _ (sym c.unfit_beside.ensures ∙ c.if-unfit_beside.false)).pers-long
+pub copy-requires : goal.copy-requires
+copy-requires c = sym (fits _ _ _ _ _ _ (sym c.unfit_beside.ensures ∙ c.if-unfit_beside.false)).pers-long
 
 pub returns : goal.returns
 unfolding call_system
-returns c = rw (c.restart.ensures, ← c.unfit_beside.ensures, c.if-unfit_beside.false)
+returns c = rw (c.copy.ensures, ← c.unfit_beside.ensures, c.if-unfit_beside.false)
