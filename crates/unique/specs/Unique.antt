@@ -1,7 +1,7 @@
 -- Document 01: "For all inputs a public function's promise settles the answer and every lent row afterwards, after a refusal too." A promise is a function's clauses
 -- as the toolchain makes them from its source, so none can be weakened unseen. A method stands below its type, as `text.Page.put_byte`, and a trait's method below the
 -- type's name and the trait's. The exceptions are `input::read_full` and `input::report_input`, whose outcomes are the reader's to say, and, of
--- `report_input`, the writer's and the closure's.
+-- `report_input`, the writer's and the report's.
 use Rattle.std.specs.Prelude.{◌≡◌}
 use seplogic.Ra.Ura.{Ura}
 use base.Logic.{SProp, ent}
