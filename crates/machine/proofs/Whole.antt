@@ -11,7 +11,6 @@ use lib.Dec.{eqb, ltb}
 use Rattle.std.specs.Prelude.{Option, Some, None, Result, Ok, Err}
 use Rattle.bits.specs.Marks.{pick}
 use Rattle.dtml.specs.declared.Answer.{Answer}
-use Rattle.dtml.specs.declared.Answer.TheVariants.{Taken}
 use Rattle.dtml.specs.declared.Refusal.{Refusal}
 use Rattle.dtml.specs.declared.Refusal.TheVariants.{Unfit}
 use Rattle.dtml.specs.declared.Phase.TheVariants.{Fresh}
@@ -40,7 +39,7 @@ use Rattle.machine.specs.declared.After.{After}
 use Rattle.machine.specs.declared.Held.{Held}
 use Rattle.machine.specs.declared.work.Worked.{Worked}
 use Rattle.machine.specs.Given.{store_of, outcome_of}
-use Rattle.machine.specs.Working.{Work, work_of, worked, worked_of, turn_worked, event_worked, fresh_held, Renewed, renewed, renewed_of}
+use Rattle.machine.specs.Working.{Work, work_of, worked, worked_of, turn_worked, event_worked, Renewed, renewed, renewed_of}
 
 -- ---- the ways of `work`
 
