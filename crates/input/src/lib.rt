@@ -28,11 +28,11 @@ pub fn read_full<R: Read>(reader: &mut R, bytes: &mut [u8]) -> (usize, io::Resul
 
 // What a program makes of its input: text at the start of a lent buffer of OUT bytes, and the text's length.
 pub trait Report<const OUT: usize> {
-    // Of what was read, the buffer as it was lent, the length that is given and the buffer as it is left.
-    ghost post: { List ℕ → List ℕ → ℕ → List ℕ → Type 0 };
+    // Of what makes it, of what was read, the buffer as it was lent, the length that is given and the buffer as it is left.
+    ghost post: { Self → List ℕ → List ℕ → ℕ → List ℕ → Type 0 };
 
-    fn report(bytes: &[u8], out: &mut [u8; OUT]) -> usize
-        ensures { post bytes.now out.old result out.new };
+    fn report(self, bytes: &[u8], out: &mut [u8; OUT]) -> usize
+        ensures { post self bytes.now out.old result out.new };
 }
 
 // Reads as far as the first buffer reaches, hands what was read and the second buffer to the report, and writes as much of that as the report says, or all of it where
@@ -41,16 +41,17 @@ pub trait Report<const OUT: usize> {
 pub fn report_input<const OUT: usize, R: Read, W: Write, P: Report<OUT>>(
     reader: &mut R,
     writer: &mut W,
+    report: P,
     bytes: &mut [u8],
     text: &mut [u8; OUT],
 ) -> io::Result<()>
-    ensures { OnOk result ((got : ℕ) × (n : ℕ) × P.post (take got bytes.new) text.old n text.new
+    ensures { OnOk result ((got : ℕ) × (n : ℕ) × P.post report (take got bytes.new) text.old n text.new
         × Consumes (R.remaining reader.old) (R.remaining reader.new) (take got bytes.new)
         × (got < length bytes.old → IsAtEnd (R.remaining reader.new))
         × Appends (W.contents writer.old) (W.contents writer.new) (take n text.new)) }
 {
     let (got, read) = read_full(reader, bytes);
-    let length = P::report(&bytes[..got], text);
+    let length = report.report(&bytes[..got], text);
     writer.write_all(text.get(..length).unwrap_or(text))?;
     read
 }

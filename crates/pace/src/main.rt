@@ -192,13 +192,14 @@ fn answer_of(kind: Kind, times: u64) -> Answered
     last.answer
 }
 
+#[derive(Drop)]
 struct Pace;
 
 impl Report<64> for Pace {
-    ghost post = { λ bytes out n after. (after ≡ printed bytes ++ drop n out) × (n ≡ length (printed bytes)) × IsPrefixLen n after };
+    ghost post = { λ self bytes out n after. (after ≡ printed bytes ++ drop n out) × (n ≡ length (printed bytes)) × IsPrefixLen n after };
 
     // Puts the line for the bytes that were read at the start of out, which has room for any, and gives its length.
-    fn report(bytes: &[u8], out: &mut [u8; 64]) -> usize {
+    fn report(self, bytes: &[u8], out: &mut [u8; 64]) -> usize {
         let n = times(byte_at(bytes, 1));
         let answer = answer_of(Kind::from(byte_at(bytes, 0)), n);
         let mut page = Page { bytes: out, at: 0 };
@@ -211,9 +212,10 @@ impl Report<64> for Pace {
 fn main(rt: HostRuntime) -> io::Result<()> {
     let mut bytes = [0u8; 2];
     let mut text = [0u8; 64];
-    report_input::<_, _, _, Pace>(
+    report_input(
         &mut rt.reader(),
         &mut io::writer(&rt),
+        Pace,
         &mut bytes,
         &mut text,
     )

@@ -12,15 +12,16 @@ use reader::trace::header;
 use std::io;
 use trace::replay_beside;
 
+#[derive(Drop)]
 struct Replay;
 
 impl Report<655438> for Replay {
-    ghost post = { λ trace out n after. (after ≡ printed trace ++ drop n out) × (n ≡ length (printed trace)) × IsPrefixLen n after };
+    ghost post = { λ self trace out n after. (after ≡ printed trace ++ drop n out) × (n ≡ length (printed trace)) × IsPrefixLen n after };
 
     // Puts what is printed of a trace at the start of out, which has room for any, and gives its length.
     // The three rows are arrays of the program's own, of which it lends the first N words each: document 01 has it so for the program, and `host` and `replay_lent` have
     // arrays of their own.
-    fn report(trace: &[u8], out: &mut [u8; 655438]) -> usize {
+    fn report(self, trace: &[u8], out: &mut [u8; 655438]) -> usize {
         let mut vol = [0u32; 256];
         let mut pers = [0u32; 256];
         let mut old = [0u32; 256];
@@ -43,9 +44,10 @@ impl Report<655438> for Replay {
 fn main(rt: HostRuntime) -> io::Result<()> {
     let mut bytes = [0u8; 65537];
     let mut text = [0u8; 655438];
-    report_input::<_, _, _, Replay>(
+    report_input(
         &mut rt.reader(),
         &mut io::writer(&rt),
+        Replay,
         &mut bytes,
         &mut text,
     )
