@@ -2,7 +2,7 @@
 
 #![tactic(auto)]
 
-ghost use Rattle.std.specs.Prelude.{◌^◌, ◌≡◌, ◌≤◌, ◌<◌, length, take, OnOk};
+ghost use Rattle.std.specs.Prelude.{ℕ, List, ◌≡◌, ◌≤◌, ◌<◌, length, take, OnOk};
 ghost use Rattle.std.specs.Io.KnownBytes.{Appends, Consumes, IsAtEnd};
 
 use std::io;
@@ -26,30 +26,31 @@ pub fn read_full<R: Read>(reader: &mut R, bytes: &mut [u8]) -> (usize, io::Resul
     (got, Ok(()))
 }
 
-// Reads as far as IN bytes reach, hands what was read and a buffer of OUT bytes to the report, and writes as much of the buffer as that says. The promise speaks of
-// the case without an error. Where a read fails, what stood before it is reported and written all the same, and the error is given then, or that of the write if it
-// fails, too. The buffers are arrays, of which a part is used: nothing is allocated.
-pub fn report_input<const IN: usize, const OUT: usize, R, W, F>(
+// What a program makes of its input: text at the start of a lent buffer of OUT bytes, and the text's length.
+pub trait Report<const OUT: usize> {
+    // Of what was read, the buffer as it was lent, the length that is given and the buffer as it is left.
+    ghost post: { List ℕ → List ℕ → ℕ → List ℕ → Type 0 };
+
+    fn report(bytes: &[u8], out: &mut [u8; OUT]) -> usize
+        ensures { post bytes.now out.old result out.new };
+}
+
+// Reads as far as the first buffer reaches, hands what was read and the second buffer to the report, and writes as much of that as the report says, or all of it where
+// the report says more. The promise speaks of the case without an error. Where a read fails, what stood before it is reported and written all the same, and the error
+// is given then, or that of the write if it fails, too. The buffers are lent, and a part of each is used: nothing is allocated.
+pub fn report_input<const OUT: usize, R: Read, W: Write, P: Report<OUT>>(
     reader: &mut R,
     writer: &mut W,
-    report: F,
+    bytes: &mut [u8],
+    text: &mut [u8; OUT],
 ) -> io::Result<()>
-where
-    R: Read,
-    W: Write,
-    F: FnOnce(&[u8], &mut [u8]) -> usize,
-    requires small { (IN < 2 ^ 63) × (OUT < 2 ^ 63) }
-    requires called { (bytes : _) (out : _) → length out.now ≡ OUT → F.pre report bytes out }
-    requires within { (bytes : _) (out : _) (n : _) (after : _) → F.post report bytes out n after → n ≤ length after.now }
-    ensures { OnOk result ((bytes : _) × (out : _) × (n : _) × (after : _) × F.post report bytes out n after
-        × Consumes (R.remaining reader.old) (R.remaining reader.new) bytes.now
-        × (length bytes.now < IN → IsAtEnd (R.remaining reader.new))
-        × Appends (W.contents writer.old) (W.contents writer.new) (take n after.now)) }
+    ensures { OnOk result ((got : ℕ) × (n : ℕ) × P.post (take got bytes.new) text.old n text.new
+        × Consumes (R.remaining reader.old) (R.remaining reader.new) (take got bytes.new)
+        × (got < length bytes.old → IsAtEnd (R.remaining reader.new))
+        × Appends (W.contents writer.old) (W.contents writer.new) (take n text.new)) }
 {
-    let mut bytes = [0u8; IN];
-    let (got, read) = read_full(reader, &mut bytes);
-    let mut text = [0u8; OUT];
-    let length = report(&bytes[..got], &mut text);
-    writer.write_all(&text[..length])?;
+    let (got, read) = read_full(reader, bytes);
+    let length = P::report(&bytes[..got], text);
+    writer.write_all(text.get(..length).unwrap_or(text))?;
     read
 }

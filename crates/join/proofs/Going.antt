@@ -13,11 +13,41 @@ use borrow.Author.Tests.{ltb-true}
 use Rattle.io.specs.Counts.{IsPrefixLen}
 use Rattle.bits.specs.Marks.{pick}
 use Rattle.dtml.specs.declared.Call.{Call}
+use Rattle.dtml.specs.declared.Tx.{Tx}
 use Rattle.dtml.specs.Store.{Store}
 use Rattle.dtml.specs.Asked.{Outcome}
 use Rattle.dtml.specs.Calls.{call}
+use Rattle.machine.specs.declared.Held.{Held}
+use Rattle.machine.specs.Given.{store_of}
+use Rattle.machine.proofs.Caller.{Rows, these-rows, store-of}
 use Rattle.text.specs.Buffer.{Buffer, buffer, put, puts}
 use Rattle.join.specs.Join.{asked_at, told, store_at, outcome_at, text_at}
+
+-- ---- the rows apart, each of them what it is after i calls
+
+abbrev pub rows_at : ℕ → Rows
+rows_at i = these-rows (store_at i).mem.vol (store_at i).mem.pers (store_at i).mem.old (store_at i).txs
+
+abbrev pub held_at : ℕ → Held
+held_at i = record { marks = (store_at i).mem.marks; glb = (store_at i).mem.glb; recovery = (store_at i).rec }
+
+pub record Left (i : ℕ) (z : Rows) (h : Held) : Type 0 where
+  pub vol : z.vol ≡ (store_at i).mem.vol
+  pub pers : z.pers ≡ (store_at i).mem.pers
+  pub old : z.old ≡ (store_at i).mem.old
+  pub txs : z.txs ≡ (store_at i).txs
+  pub held : h ≡ held_at i
+
+-- the rows, with what is held, are the store after i calls
+pub same-store : (i : ℕ) (z : Rows) (h : Held) → Left i z h → store-of z h ≡ store-of (rows_at i) (held_at i)
+same-store i z h l =
+    ap (λ (v : List ℕ). store_of v z.pers z.old h z.txs) l.vol
+    ∙ ap (λ (p : List ℕ). store_of (rows_at i).vol p z.old h z.txs) l.pers
+    ∙ ap (λ (o : List ℕ). store_of (rows_at i).vol (rows_at i).pers o h z.txs) l.old
+    ∙ ap (λ (ts : List Tx). store_of (rows_at i).vol (rows_at i).pers (rows_at i).old h ts) l.txs
+    ∙ ap (λ (k : Held). store_of (rows_at i).vol (rows_at i).pers (rows_at i).old k (rows_at i).txs) l.held
+
+-- ---- the store as one
 
 -- one call more: what was asked, of which store, and what that left
 module _ (i : ℕ) (asked : Call) (s : Store) (o : Outcome) (is : asked ≡ asked_at i) (before : s ≡ store_at i) (e : o ≡ call s asked) where

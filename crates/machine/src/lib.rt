@@ -12,7 +12,7 @@ ghost use Rattle.dtml.specs.Calls.{call as called, make_fresh};
 ghost use Rattle.machine.specs.Given.{store_of, outcome_of};
 
 use crate::work::{blank, renew, slot, work};
-use dtml::{Answer, Answered, Call, Recovery, Refusal, Tx};
+use dtml::{Answered, Call, Recovery, Tx};
 use marks::Marks;
 use parts::memory::Memory;
 
@@ -51,19 +51,12 @@ pub fn make_fresh(
     ensures { outcome_of vol.new pers.new old.new txs.new result
         ≡ make_fresh (store_of vol.old pers.old old.old held txs.old) }
 {
-    match renew(vol, pers, old, txs.len()) {
-        Ok(()) => {
-            records::store_if(txs, Some(blank()));
-            After {
-                answer: Ok(Answer::Taken { lines: 0 }),
-                held: Held::FRESH,
-            }
-        }
-        Err(refusal) => After {
-            answer: Err(refusal),
-            held,
-        },
+    let after = renew(vol, pers, old, held, txs.len());
+    match after.answer {
+        Ok(_) => records::store_if(txs, Some(blank())),
+        Err(_) => {}
     }
+    after
 }
 
 // Begin, read, write, commit, a step; a system flush, a crash, a line of recovery, or as many as an allowance.
@@ -78,12 +71,9 @@ pub fn call(
     ensures { outcome_of vol.new pers.new old.new txs.new result
         ≡ called (store_of vol.old pers.old old.old held txs.old) asked }
 {
-    if records::unfit(&*txs, vol.len()) {
-        return After {
-            answer: Err(Refusal::Unfit),
-            held,
-        };
-    }
+    let i = slot(asked);
+    let unfit = records::unfit(&*txs, vol.len());
+    let tx = records::get(&*txs, i);
     let marks = held.marks;
     let mut memory = Memory {
         vol,
@@ -92,8 +82,7 @@ pub fn call(
         marks,
         glb: held.glb,
     };
-    let i = slot(asked);
-    let done = work(&mut memory, held.recovery, records::get(&*txs, i), asked);
+    let done = work(&mut memory, held.recovery, unfit, tx, asked);
     records::put(txs, i, done.tx);
     records::crash_if(txs, done.crashed);
     let marks = memory.marks;

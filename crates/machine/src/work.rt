@@ -1,4 +1,4 @@
-// What a call does to all of the store but the lent row of records; of that row it is handed the record that the call is on, or how long the row is.
+// What a call does to all of the store but the lent row of records; from what was found of that row.
 ghost use Rattle.std.specs.Prelude.{◌<◌, ◌≡◌, false, not, [], ◌∷◌, length, replicate, eqb};
 ghost use Rattle.dtml.specs.declared.Phase.TheVariants.{Fresh};
 ghost use Rattle.dtml.specs.Store.{tx as tx_of};
@@ -8,12 +8,13 @@ ghost use Rattle.dtml.specs.Handed.{place_of, slot_of};
 ghost use Rattle.parts.specs.Lent.{memory_of, SameRows};
 ghost use Rattle.machine.specs.Working.{renewed_of, renewed, worked_of, worked, turn_worked, event_worked};
 
+use crate::{After, Held};
 use dtml::{Answer, Answered, Call, Recovery, Refusal, Tx};
 use lines::call_one;
 use lines::turn::Turn;
 use parts::fit::unfit_rows;
 use parts::memory::Memory;
-use system::{Event, call_system};
+use system::{Event, call_on_memory};
 
 // The place of the record of an identifier; 0 where there is none. No `Option`: the call is then handed the first record, and gives it back as it is.
 pub fn place_of(id: u64) -> usize
@@ -88,14 +89,17 @@ fn by_event(event: Result<Event, Refusal>, recovery: Recovery, tx: Tx) -> Worked
     }
 }
 
-// A call; tx is the record that it names.
-pub fn work(memory: &mut Memory, recovery: Recovery, tx: Tx, call: Call) -> Worked
+// A call; bad says that the row of records is unfit, and tx is the record that the call names.
+pub fn work(memory: &mut Memory, recovery: Recovery, bad: bool, tx: Tx, call: Call) -> Worked
     ensures same { SameRows memory.old memory.new }
-    ensures left { worked_of result (memory_of memory.new) ≡ worked (memory_of memory.old) recovery tx call }
+    ensures left { worked_of result (memory_of memory.new) ≡ worked (memory_of memory.old) recovery bad tx call }
 {
+    if bad {
+        return left(Err(Refusal::Unfit), recovery, tx);
+    }
     match call {
         Call::On { id, ask } => by_turn(call_one(memory, recovery, id, tx, ask), recovery, tx),
-        Call::Of { sys } => by_event(call_system(memory, recovery, sys), recovery, tx),
+        Call::Of { sys } => by_event(call_on_memory(memory, recovery, sys), recovery, tx),
     }
 }
 
@@ -115,17 +119,23 @@ fn unfit_lengths(vol: usize, pers: usize, old: usize, txs: usize) -> bool
     txs != 64
 }
 
-// Making fresh the word rows, beside a row of so many records. Rows and no `Memory`: nothing else is looked at.
-pub fn renew(vol: &mut [u32], pers: &mut [u32], old: &mut [u32], txs: usize) -> Result<(), Refusal>
-    ensures { renewed_of result vol.new pers.new old.new ≡ renewed vol.old pers.old old.old txs }
+// Making fresh, beside a row of so many records: the records are to be made fresh where the answer is no refusal. Rows and no `Memory`: nothing else is looked at.
+pub fn renew(vol: &mut [u32], pers: &mut [u32], old: &mut [u32], held: Held, txs: usize) -> After
+    ensures { renewed_of result vol.new pers.new old.new ≡ renewed vol.old pers.old old.old held txs }
 {
     if unfit_lengths(vol.len(), pers.len(), old.len(), txs) {
-        return Err(Refusal::Unfit);
+        return After {
+            answer: Err(Refusal::Unfit),
+            held,
+        };
     }
     zero(vol);
     zero(pers);
     zero(old);
-    Ok(())
+    After {
+        answer: Ok(Answer::Taken { lines: 0 }),
+        held: Held::FRESH,
+    }
 }
 
 // 64 fresh records.

@@ -71,6 +71,26 @@ read_length = fours (λ n xs. length (read_txs xs) ≡ n) refl (λ k a b c d xs 
 
 -- ---- one record
 
+-- four numbers that are set one after the other
+set-four : (xs : List ℕ) (n a b c d : ℕ) → n + 4 ≤ length xs
+    → set (set (set (set xs n a) (suc n) b) (suc (suc n)) c) (suc (suc (suc n))) d ≡ take n xs ++ (a ∷ b ∷ c ∷ d ∷ drop 4 (drop n xs))
+set-four [] n a b c d h = absurd (let z : n + 4 ≤ 0 = h in omega arith)
+set-four (x ∷ []) zero a b c d h = absurd (let z : 4 ≤ 1 = h in omega arith)
+set-four (x ∷ y ∷ []) zero a b c d h = absurd (let z : 4 ≤ 2 = h in omega arith)
+set-four (x ∷ y ∷ z ∷ []) zero a b c d h = absurd (let z : 4 ≤ 3 = h in omega arith)
+set-four (x ∷ y ∷ z ∷ w ∷ xs) zero a b c d h = refl
+set-four (x ∷ xs) (suc n) a b c d h = ap (λ ys. x ∷ ys) (set-four xs n a b c d (omega arith))
+
+pub put-four : (xs : List ℕ) (n a b c d : ℕ) → n + 4 ≤ length xs
+    → set (set (set (set xs n a) (n + 1) b) (n + 2) c) (n + 3) d ≡ take n xs ++ (a ∷ b ∷ c ∷ d ∷ drop 4 (drop n xs))
+put-four xs n a b c d h =
+    let p : n + 1 ≡ suc n = omega arith in
+    let q : n + 2 ≡ suc (suc n) = omega arith in
+    let r : n + 3 ≡ suc (suc (suc n)) = omega arith in
+    rw (p, q, r) (set-four xs n a b c d h)
+
+pub ruleset putting = (put-four)
+
 read-four : (e : List ℕ) (k : ℕ) (xs : List ℕ) → length xs ≡ 4 * k → (i : ℕ) → i < k → tx_of (get_or (first_chunks 4 k xs) i e) ≡ record_at (read_txs xs) i
 unfolding read_txs
 read-four e = fours (λ k xs. (i : ℕ) → i < k → tx_of (get_or (first_chunks 4 k xs) i e) ≡ record_at (read_txs xs) i) (λ i h. absurd (omega arith)) go

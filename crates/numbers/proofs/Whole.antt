@@ -11,6 +11,7 @@ use lib.Dec.{eqb}
 use Rattle.std.specs.Prelude.{Option, Some, None, Result, Ok, Err}
 use Rattle.bits.specs.Marks.{pick}
 use Rattle.dtml.specs.declared.Answer.{Answer}
+use Rattle.dtml.specs.declared.Answer.TheVariants.{Taken}
 use Rattle.dtml.specs.declared.Refusal.{Refusal}
 use Rattle.dtml.specs.declared.Refusal.TheVariants.{Unfit}
 use Rattle.dtml.specs.declared.Phase.TheVariants.{Fresh}
@@ -23,9 +24,11 @@ use Rattle.dtml.specs.First.{any_of}
 use Rattle.dtml.specs.Checks.{unfit, unfit_rows, unfit_memory, unfit_txs}
 use Rattle.dtml.specs.Calls.{call}
 use Rattle.dtml.specs.Handed.{slot_of, reach}
+use Rattle.machine.specs.declared.After.{After}
 use Rattle.machine.specs.declared.Held.{Held}
 use Rattle.machine.specs.declared.work.Worked.{Worked}
-use Rattle.machine.specs.Working.{worked, worked_of, Renewed, renewed, renewed_of}
+use Rattle.machine.specs.Given.{outcome_of}
+use Rattle.machine.specs.Working.{worked, worked_of, fresh_held, Renewed, renewed, renewed_of}
 use Rattle.machine.proofs.Whole.{unfit-any, called-whole, fresh-made}
 use Rattle.numbers.specs.Numbers.{Rows, rows, spell_txs, read_txs, spell_store, read_store, same, spells, Told, told, spell_outcome, refused_rows, call_numbers, unfit_lengths, fresh_numbers, given, gives}
 use Rattle.numbers.specs.Ways.{put_tx, unfit_records, crash_numbers, held_spelt, spelled_held, spells_held}
@@ -173,7 +176,7 @@ module _ (v p o h xs : List ℕ) (c : Call) where
 
   pub called : {hd : Held} {b : Option Held} {i : ℕ} {t : Tx} {bad : Bool} {m : Memory} {hs xs₁ xs₂ : List ℕ} (w : Worked)
       → b ≡ pick (spells_held h) (Some (held_spelt h)) None → b ≡ Some hd → length xs ≡ 256 → bad ≡ unfit_records (length v) xs → bad ≡ false
-      → i ≡ slot_of c → i < 64 → t ≡ record_at (read_txs xs) i → worked_of w m ≡ worked (memory v p o hd.marks hd.glb) hd.recovery t c
+      → i ≡ slot_of c → i < 64 → t ≡ record_at (read_txs xs) i → worked_of w m ≡ worked (memory v p o hd.marks hd.glb) hd.recovery false t c
       → xs₁ ≡ put_tx xs i w.tx → xs₂ ≡ pick w.crashed (crash_numbers xs₁) xs₁ → hs ≡ spelled_held (record { marks = m.marks; glb = m.glb; recovery = w.recovery })
       → told (reply w.answer) (rows m.vol m.pers m.old hs xs₂) ≡ call_numbers here c
   unfolding call_numbers
@@ -185,19 +188,15 @@ module _ (v p o h xs : List ℕ) (c : Call) where
       rw (eq-eqb (length (read_txs xs)) 64 many, fit.records) in
       ap (λ ys. told (reply w.answer) (rows m.vol m.pers m.old hs ys)) (put_back i w.tx w.crashed long below fit.spelled-again put reached)
       ∙ ap (λ hs. told (reply w.answer) (rows m.vol m.pers m.old hs (spell_txs (reach w.crashed (set (read_txs xs) i w.tx))))) held
-      ∙ ap spell_outcome (called-whole (memory v p o (held_spelt h).marks (held_spelt h).glb) (held_spelt h).recovery (read_txs xs) c {m' = m} w found refl at got
-      (done ∙ ap (λ (y : Held). worked (memory v p o y.marks y.glb) y.recovery t c) spelt.1) refl refl)
+      ∙ ap spell_outcome (called-whole (memory v p o (held_spelt h).marks (held_spelt h).glb) (held_spelt h).recovery (read_txs xs) c {m' = m} w at found got
+      (done ∙ ap (λ (y : Held). worked (memory v p o y.marks y.glb) y.recovery false t c) spelt.1) refl refl)
       ∙ rw (spelled-both spelt.0 fit.spelled-again)
 
 -- ---- making fresh
 
 -- what a refused one leaves and answers
 abbrev made_of : List ℕ → List ℕ → Renewed → Told
-made_of h xs y = told (answer y.made) (rows y.vol y.pers y.old h xs)
-  where
-    answer : Result (Unit {0}) Refusal → Reply
-    answer (Ok u) = says 0 0
-    answer (Err k) = reply (Err k)
+made_of h xs y = told (reply y.after.answer) (rows y.vol y.pers y.old h xs)
 
 -- the first numbers of what is left of making fresh decide
 module _ (v p o h xs : List ℕ) where
@@ -211,31 +210,44 @@ module _ (v p o h xs : List ℕ) where
   records-short n =
       sym (rw (third (unfit_rows (length v) (length p) (length o)) (not (eqb (length h) 8)) (not (eqb (length xs) 256)) (ap not (ne_eqb (length xs) 256 n))))
 
-  module _ {x : Result (Unit {0}) Refusal} {v' p' o' : List ℕ} (done : renewed_of x v' p' o' ≡ renewed v p o 64) where
-    pub rows-refused : {k : Refusal} → x ≡ Err k → told (reply (Err k)) (rows v' p' o' h xs) ≡ fresh_numbers (rows v p o h xs)
+  module _ (hd : Held) {x : After} {v' p' o' : List ℕ} (done : renewed_of x v' p' o' ≡ renewed v p o hd 64) where
+    pub rows-refused : {k : Refusal} → x.answer ≡ Err k → told (reply (Err k)) (rows v' p' o' h xs) ≡ fresh_numbers (rows v p o h xs)
     unfolding fresh_numbers renewed
     rows-refused {k} is = go (unfit_rows (length v) (length p) (length o)) refl
       where
         go : (b : Bool) → unfit_rows (length v) (length p) (length o) ≡ b → told (reply (Err k)) (rows v' p' o' h xs) ≡ fresh_numbers (rows v p o h xs)
         go true e = rw e (rw is at (ap (made_of h xs) (rw e at done)))
-        go false e = let never : x ≡ Ok tt = ap (λ (y : Renewed). y.made) (rw e at done) in cc
+        go false e = let never : x.answer ≡ Ok (Taken 0) = ap (λ (y : Renewed). y.after.answer) (rw e at done) in cc
 
-    fit-lengths : {u : Unit {0}} → length h ≡ 8 → length xs ≡ 256 → x ≡ Ok u → unfit_lengths (rows v p o h xs) ≡ false
+    fit-lengths : {a : Answer} → length h ≡ 8 → length xs ≡ 256 → x.answer ≡ Ok a → unfit_lengths (rows v p o h xs) ≡ false
     unfolding renewed
     fit-lengths held long is = go (unfit_rows (length v) (length p) (length o)) refl
       where
         go : (b : Bool) → unfit_rows (length v) (length p) (length o) ≡ b → unfit_lengths (rows v p o h xs) ≡ false
-        go true e = let never : x ≡ Err Unfit = ap (λ (y : Renewed). y.made) (rw e at done) in cc
+        go true e = let never : x.answer ≡ Err Unfit = ap (λ (y : Renewed). y.after.answer) (rw e at done) in cc
         go false e = rw (e, eq-eqb (length h) 8 held, eq-eqb (length xs) 256 long)
 
-    pub made-fresh : {u : Unit {0}} {hs xs' : List ℕ} → length h ≡ 8 → length xs ≡ 256 → x ≡ Ok u → hs ≡ replicate (length h) 0 → xs' ≡ replicate (length xs) 0
+    -- what is held does not matter where all is made fresh
+    made-so : {a : Answer} → x.answer ≡ Ok a → (k : Held)
+        → (x ≡ record { answer = Ok (Taken 0); held = fresh_held }) × (renewed_of x v' p' o' ≡ renewed v p o k 64)
+    unfolding renewed
+    made-so is k = go (unfit_rows (length v) (length p) (length o)) refl
+      where
+        go : (b : Bool) → unfit_rows (length v) (length p) (length o) ≡ b
+            → (x ≡ record { answer = Ok (Taken 0); held = fresh_held }) × (renewed_of x v' p' o' ≡ renewed v p o k 64)
+        go true e = let never : x.answer ≡ Err Unfit = ap (λ (y : Renewed). y.after.answer) (rw e at done) in (cc, cc)
+        go false e = (ap (λ (y : Renewed). y.after) (rw e at done), rw e (rw e at done))
+
+    pub made-fresh : {a : Answer} {hs xs' : List ℕ} → length h ≡ 8 → length xs ≡ 256 → x.answer ≡ Ok a → hs ≡ replicate (length h) 0 → xs' ≡ replicate (length xs) 0
         → told (says 0 0) (rows v' p' o' hs xs') ≡ fresh_numbers (rows v p o h xs)
     unfolding fresh_numbers spell_txs
-    made-fresh {u} {hs} {xs'} held long is zeroed cleared =
+    made-fresh {hs = hs} {xs'} held long is zeroed cleared =
+        let so = made-so is (held_spelt h) in
         let many : length (read_txs xs) ≡ 64 = read_length 64 xs long in
         let stored : replicate 64 (tx 0 Fresh) ≡ pick (eqb (length (read_txs xs)) 64) (replicate 64 (tx 0 Fresh)) (read_txs xs) = rw (eq-eqb (length (read_txs xs)) 64 many) in
         let fresh-row : xs' ≡ spell_txs (replicate 64 (tx 0 Fresh)) = cleared ∙ ap (λ n. replicate n 0) long in
         ap (λ ys. told (says 0 0) (rows v' p' o' hs ys)) fresh-row
         ∙ ap (λ hs. told (says 0 0) (rows v' p' o' hs (spell_txs (replicate 64 (tx 0 Fresh))))) (zeroed ∙ ap (λ n. replicate n 0) held)
-        ∙ ap spell_outcome (fresh-made v p o (held_spelt h) (read_txs xs) (done ∙ ap (renewed v p o) (sym many)) is refl stored)
+        ∙ ap (λ (y : After). spell_outcome (outcome_of v' p' o' (replicate 64 (tx 0 Fresh)) y)) (sym so.0)
+        ∙ ap spell_outcome (fresh-made v p o (held_spelt h) (read_txs xs) (so.1 ∙ ap (renewed v p o (held_spelt h)) (sym many)) is refl stored)
         ∙ rw (fit-lengths held long is)

@@ -57,7 +57,8 @@ fn carried_out(
         glb: here.glb,
     };
     let i = slot(asked);
-    let done = work(&mut memory, here.recovery, get(&*records, i), asked);
+    let tx = get(&*records, i);
+    let done = work(&mut memory, here.recovery, false, tx, asked);
     put(records, i, done.tx);
     crash_if(records, done.crashed);
     let marks = memory.marks;
@@ -119,9 +120,10 @@ pub fn make_fresh(
     if records.len() != 256 {
         return number(Err(Refusal::Unfit));
     }
-    match renew(vol, pers, old, 64) {
+    // What is held goes as numbers here, which a refusal leaves as they were.
+    match renew(vol, pers, old, Held::FRESH, 64).answer {
         // All numbers of a fresh store are 0.
-        Ok(()) => {
+        Ok(_) => {
             held.fill(0);
             records.fill(0);
             number(Ok(Answer::Taken { lines: 0 }))

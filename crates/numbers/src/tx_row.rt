@@ -40,13 +40,18 @@ pub(crate) fn get(records: &[u32; 256], i: usize) -> Tx
     tx_of(fours[i])
 }
 
-// Puts record i back. By place, since after `as_chunks_mut` only the row's length would be known.
+// Puts record i back, number by number: since after `as_chunks_mut` only the row's length would be known, and a slice of four that is copied over is a loop to the compiler.
+#[tactic(auto, using(crate::proofs::Fours::putting))]
 pub(crate) fn put(records: &mut [u32; 256], i: usize, tx: Tx)
     requires { i < 64 }
     ensures { records.new ≡ put_tx records.old i tx }
 {
     let at = 4 * i;
-    records[at..at + 4].copy_from_slice(&tx_numbers(tx));
+    let [loc, number, word, value] = tx_numbers(tx);
+    records[at] = loc;
+    records[at + 1] = number;
+    records[at + 2] = word;
+    records[at + 3] = value;
 }
 
 // The numbers spell no record, or an unfit one; the first is told by one comparison with how what was read is spelled.

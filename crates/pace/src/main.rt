@@ -11,7 +11,7 @@ ghost use Rattle.machine.specs.Given.{outcome_of};
 ghost use Rattle.pace.specs.Pace.{kind_of, words_of, marks_of, old_words_of, count_of, recovery_of, records_of, calls, times_of, last_of, printed};
 
 use dtml::{Answer, Answered, Ask, Call, Recovery, Tx};
-use input::report_input;
+use input::{Report, report_input};
 use machine::{After, Held, call};
 use marks::{Marks, mark};
 use parts::answer::{number, value};
@@ -192,20 +192,29 @@ fn answer_of(kind: Kind, times: u64) -> Answered
     last.answer
 }
 
-// Puts the line for the bytes that were read at the start of out, which has room for any, and gives its length.
-fn report(bytes: &[u8], out: &mut [u8]) -> usize
-    requires { length out.old ≡ 64 }
-    ensures { (out.new ≡ printed bytes.now ++ drop result out.old)
-        × (result ≡ length (printed bytes.now)) × IsPrefixLen result out.new }
-{
-    let n = times(byte_at(bytes, 1));
-    let answer = answer_of(Kind::from(byte_at(bytes, 0)), n);
-    let mut page = Page { bytes: out, at: 0 };
-    page.put_answer(n, number(answer), value(answer));
-    page.at
+struct Pace;
+
+impl Report<64> for Pace {
+    ghost post = { λ bytes out n after. (after ≡ printed bytes ++ drop n out) × (n ≡ length (printed bytes)) × IsPrefixLen n after };
+
+    // Puts the line for the bytes that were read at the start of out, which has room for any, and gives its length.
+    fn report(bytes: &[u8], out: &mut [u8; 64]) -> usize {
+        let n = times(byte_at(bytes, 1));
+        let answer = answer_of(Kind::from(byte_at(bytes, 0)), n);
+        let mut page = Page { bytes: out, at: 0 };
+        page.put_answer(n, number(answer), value(answer));
+        page.at
+    }
 }
 
 // Where a read fails, the line is that of what stood before it, and the program then ends with the error.
 fn main(rt: HostRuntime) -> io::Result<()> {
-    report_input::<2, 64, _, _, _>(&mut rt.reader(), &mut io::writer(&rt), report)
+    let mut bytes = [0u8; 2];
+    let mut text = [0u8; 64];
+    report_input::<_, _, _, Pace>(
+        &mut rt.reader(),
+        &mut io::writer(&rt),
+        &mut bytes,
+        &mut text,
+    )
 }

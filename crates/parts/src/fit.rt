@@ -1,7 +1,7 @@
 // Tests of what a call is handed: what is unfit.
 ghost use Rattle.std.specs.Prelude.{◌≡◌};
 ghost use Rattle.bits.specs.Marks.{pick};
-ghost use Rattle.dtml.specs.Checks.{unfit_rows, unfit_recovery, unfit_tx, names_word, word_of, phase_past};
+ghost use Rattle.dtml.specs.Checks.{unfit_rows, unfit_recovery, unfit_tx, unfit_beside, unfit_one, names_word, word_of, phase_past};
 
 use dtml::{Phase, Recovery, Tx};
 use marks::Marks;
@@ -68,4 +68,52 @@ pub fn unfit_tx(n: usize, tx: Tx) -> bool
         return true;
     }
     phase_past(n, tx.phase)
+}
+
+// Unfit where recovery is idle, without a look at the records; vol, pers and old are the lengths of the three word rows.
+pub fn unfit_idle(vol: usize, pers: usize, old: usize, marks: &Marks, glb: u32) -> bool
+    ensures { result ≡ unfit_beside vol pers old marks.now glb Recovery.Idle }
+{
+    if unfit_rows(vol, pers, old) {
+        return true;
+    }
+    if marks::stands_from(marks, vol as u64) {
+        return true;
+    }
+    65535 < glb
+}
+
+// The same wherever recovery stands.
+pub fn unfit_beside(
+    vol: usize,
+    pers: usize,
+    old: usize,
+    marks: &Marks,
+    glb: u32,
+    recovery: Recovery,
+) -> bool
+    ensures { result ≡ unfit_beside vol pers old marks.now glb recovery }
+{
+    if unfit_idle(vol, pers, old, marks, glb) {
+        return true;
+    }
+    unfit_recovery(vol, marks, recovery)
+}
+
+// The same with one record.
+pub fn unfit_one(
+    vol: usize,
+    pers: usize,
+    old: usize,
+    marks: &Marks,
+    glb: u32,
+    recovery: Recovery,
+    tx: Tx,
+) -> bool
+    ensures { result ≡ unfit_one vol pers old marks.now glb recovery tx }
+{
+    if unfit_beside(vol, pers, old, marks, glb, recovery) {
+        return true;
+    }
+    unfit_tx(vol, tx)
 }

@@ -12,7 +12,7 @@ ghost use Rattle.text.specs.Buffer.{buffer, puts};
 ghost use Rattle.day.specs.Replay.{replay as replayed, text_of, printed};
 ghost use Rattle.day.specs.Ends.{longest};
 
-use input::report_input;
+use input::{Report, report_input};
 use machine::Held;
 use machine::work::blank;
 use reader::trace::header;
@@ -36,30 +36,39 @@ fn on_records(
     trace::replay(trace, vol, pers, old, &mut txs, held, out).length
 }
 
-// Puts what is printed of a trace at the start of out, which has room for any, and gives its length.
-// The three rows are arrays of the program's own, of which it lends the first N words each: document 01 has it so for the program replay, and this one and `host`
-// have arrays of their own.
-fn report(trace: &[u8], out: &mut [u8]) -> usize
-    requires { length out.old ≡ 655438 }
-    ensures { (out.new ≡ printed trace.now ++ drop result out.old)
-        × (result ≡ length (printed trace.now)) × IsPrefixLen result out.new }
-{
-    let mut vol = [0u32; 256];
-    let mut pers = [0u32; 256];
-    let mut old = [0u32; 256];
-    let n = header(trace).unwrap_or(0);
-    on_records(
-        trace,
-        &mut vol[..n],
-        &mut pers[..n],
-        &mut old[..n],
-        Held::FRESH,
-        out,
-    )
+struct Replay;
+
+impl Report<655438> for Replay {
+    ghost post = { λ trace out n after. (after ≡ printed trace ++ drop n out) × (n ≡ length (printed trace)) × IsPrefixLen n after };
+
+    // Puts what is printed of a trace at the start of out, which has room for any, and gives its length.
+    // The three rows are arrays of the program's own, of which it lends the first N words each: document 01 has it so for the program replay, and this one and `host`
+    // have arrays of their own.
+    fn report(trace: &[u8], out: &mut [u8; 655438]) -> usize {
+        let mut vol = [0u32; 256];
+        let mut pers = [0u32; 256];
+        let mut old = [0u32; 256];
+        let n = header(trace).unwrap_or(0);
+        on_records(
+            trace,
+            &mut vol[..n],
+            &mut pers[..n],
+            &mut old[..n],
+            Held::FRESH,
+            out,
+        )
+    }
 }
 
 // Reads a trace, or as much of a longer one as shows that it is longer; there is room for any text. Where a read fails, what stood before it is replayed all the same,
 // and the program then ends with the error.
 fn main(rt: HostRuntime) -> io::Result<()> {
-    report_input::<65537, 655438, _, _, _>(&mut rt.reader(), &mut io::writer(&rt), report)
+    let mut bytes = [0u8; 65537];
+    let mut text = [0u8; 655438];
+    report_input::<_, _, _, Replay>(
+        &mut rt.reader(),
+        &mut io::writer(&rt),
+        &mut bytes,
+        &mut text,
+    )
 }

@@ -10,8 +10,7 @@ use lib.ListN.{length}
 use Rattle.bits.specs.Marks.{lowest_of}
 use Rattle.dtml.specs.declared.Recovery.{Recovery}
 use Rattle.dtml.specs.declared.Recovery.TheVariants.{C2}
-use Rattle.dtml.specs.Store.{Memory}
-use Rattle.dtml.specs.Checks.{unfit_recovery, unfit_beside, unfit_memory}
+use Rattle.dtml.specs.Checks.{unfit_recovery, unfit_beside}
 use Rattle.dtml.proofs.Fit.{FitBeside, fits, lowest-in}
 use Rattle.dtml.specs.Lines.{flush_of}
 use Rattle.parts.specs.Flush.{flush_in}
@@ -32,7 +31,8 @@ named_in vol pers old k g r w test h =
     omega arith
 
 -- a word that is there is flushed as the definition says
-pub flush-in : (m : Memory) (r : Recovery) (w : ℕ) → unfit_memory m r ≡ false → w < length m.vol → flush_in m.vol m.pers w ≡ flush_of m.vol m.pers w
-flush-in m r w h there =
-    let f = fits (length m.vol) (length m.pers) (length m.old) m.marks m.glb r h in
-    in_rows m.vol m.pers w there (omega arith)
+pub flush-in : (vol pers old : List ℕ) (k : List ℕ) (g : ℕ) (r : Recovery) (w : ℕ) → unfit_beside (length vol) (length pers) (length old) k g r ≡ false
+    → w < length vol → flush_in vol pers w ≡ flush_of vol pers w
+flush-in vol pers old k g r w h there =
+    let f = fits (length vol) (length pers) (length old) k g r h in
+    in_rows vol pers w there (omega arith)

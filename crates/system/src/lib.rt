@@ -4,20 +4,26 @@
 #![tactic(auto)]
 
 mod recovery;
+mod words;
 
-ghost use Rattle.std.specs.Prelude.{◌≡◌, length};
-ghost use Rattle.dtml.specs.Lines.{crash_memory, crash_tx};
+ghost use Rattle.std.specs.Prelude.{◌≡◌};
+ghost use Rattle.dtml.specs.Store.{memory};
+ghost use Rattle.dtml.specs.Lines.{crash_tx};
 ghost use Rattle.dtml.specs.declared.Sys.TheVariants.{Flush as flush_asked, Crash as crash_asked, Recover as recover_asked, RecoverUpTo as recover_up_to};
-ghost use Rattle.dtml.specs.Checks.{unfit_memory};
+ghost use Rattle.dtml.specs.Checks.{unfit_beside};
 ghost use Rattle.dtml.specs.Handed.{call_system};
 ghost use Rattle.parts.specs.Lent.{memory_of, SameRows};
 ghost use Rattle.system.specs.Recovering.{happened_of, refused_in};
 
 use crate::recovery::{RecoveryTurn, recovery_line, recovery_lines};
+use crate::words::copy;
 use dtml::{Answer, Phase, Recovery, Refusal, Sys, Tx};
+use marks::Marks;
 use parts::answer::value;
+use parts::fit::{unfit_beside, unfit_idle};
 use parts::memory::Memory;
 use parts::stages::{is_live, not_idle, stage};
+use parts::words::flush_word;
 
 // What a call that is carried out gives back: it was a flush, which leaves recovery where it stands; or a crash, which leaves it at C1 and reaches every
 // record (`crash_tx`); or so many recovery lines. The lines stand beside the answer, since that of a single line has the value 0.
@@ -42,59 +48,77 @@ fn lines_done(turn: RecoveryTurn, lines: u64) -> Event
     }
 }
 
-// Unfit without a look at the records, as `Memory::unfit_beside` says it; whether recovery is idle is asked first, since a flush mostly finds it so.
-fn unfit_now(memory: &Memory, recovery: Recovery) -> bool
-    ensures { result ≡ unfit_memory (memory_of memory.now) recovery }
+// Unfit without a look at the records, as `unfit_beside` says it; whether recovery is idle is asked first, since a flush mostly finds it so.
+fn unfit_now(
+    vol: usize,
+    pers: usize,
+    old: usize,
+    marks: &Marks,
+    glb: u32,
+    recovery: Recovery,
+) -> bool
+    ensures { result ≡ unfit_beside vol pers old marks.now glb recovery }
 {
     if not_idle(recovery) {
-        return memory.unfit_beside(recovery);
+        return unfit_beside(vol, pers, old, marks, glb, recovery);
     }
-    memory.unfit_idle()
+    unfit_idle(vol, pers, old, marks, glb)
 }
 
 // Each call tests what it is handed: with the test before the match on the call, the table of recovery lines was in the way of every flush.
-fn flush(memory: &mut Memory, recovery: Recovery, word: u32) -> Result<Event, Refusal>
-    ensures same { SameRows memory.old memory.new }
-    ensures left { happened_of result (memory_of memory.new) ≡ call_system (memory_of memory.old) recovery (flush_asked word) }
+fn flush(
+    vol: &[u32],
+    pers: &mut [u32],
+    old: &[u32],
+    marks: &Marks,
+    glb: u32,
+    recovery: Recovery,
+    word: u32,
+) -> Result<Event, Refusal>
+    ensures { happened_of result (memory vol.now pers.new old.now marks.now glb)
+        ≡ call_system (memory vol.now pers.old old.now marks.now glb) recovery (flush_asked word) }
 {
-    if unfit_now(&*memory, recovery) {
+    if unfit_now(vol.len(), pers.len(), old.len(), marks, glb, recovery) {
         return Err(Refusal::Unfit);
     }
-    if memory.vol.len() <= word as usize {
+    if vol.len() <= word as usize {
         return Err(Refusal::NoWord);
     }
-    memory.flush_word(word as usize);
+    flush_word(vol, pers, word as usize);
     Ok(Event::Flushed)
 }
 
-// What a crash does to the memory.
-fn restart(memory: &mut Memory)
-    requires { length memory.old.vol.now ≡ length memory.old.pers.now }
-    ensures same { SameRows memory.old memory.new }
-    ensures restarted { memory_of memory.new ≡ crash_memory (memory_of memory.old) }
+fn crash(
+    vol: &mut [u32],
+    pers: &[u32],
+    old: &[u32],
+    marks: &Marks,
+    glb: &mut u32,
+    recovery: Recovery,
+) -> Result<Event, Refusal>
+    ensures { happened_of result (memory vol.new pers.now old.now marks.now glb.new)
+        ≡ call_system (memory vol.old pers.now old.now marks.now glb.old) recovery crash_asked }
 {
-    let vol = &mut *memory.vol;
-    let pers = &mut *memory.pers;
-    vol.copy_from_slice(pers);
-    memory.glb = 0;
-}
-
-fn crash(memory: &mut Memory, recovery: Recovery) -> Result<Event, Refusal>
-    ensures same { SameRows memory.old memory.new }
-    ensures left { happened_of result (memory_of memory.new) ≡ call_system (memory_of memory.old) recovery crash_asked }
-{
-    if memory.unfit_beside(recovery) {
+    if unfit_beside(vol.len(), pers.len(), old.len(), marks, *glb, recovery) {
         return Err(Refusal::Unfit);
     }
-    restart(memory);
+    copy(vol, pers);
+    *glb = 0;
     Ok(Event::Crashed)
 }
 
 // Unfit, or idle: there is nothing to recover.
-fn recovers(memory: &Memory, recovery: Recovery) -> Result<(), Refusal>
-    ensures { result ≡ refused_in (memory_of memory.now) recovery }
+fn recovers(
+    vol: usize,
+    pers: usize,
+    old: usize,
+    marks: &Marks,
+    glb: u32,
+    recovery: Recovery,
+) -> Result<(), Refusal>
+    ensures { result ≡ refused_in (unfit_beside vol pers old marks.now glb recovery) recovery }
 {
-    if memory.unfit_beside(recovery) {
+    if unfit_beside(vol, pers, old, marks, glb, recovery) {
         return Err(Refusal::Unfit);
     }
     if !not_idle(recovery) {
@@ -103,35 +127,74 @@ fn recovers(memory: &Memory, recovery: Recovery) -> Result<(), Refusal>
     Ok(())
 }
 
-fn recover(memory: &mut Memory, recovery: Recovery) -> Result<Event, Refusal>
-    ensures same { SameRows memory.old memory.new }
-    ensures left { happened_of result (memory_of memory.new) ≡ call_system (memory_of memory.old) recovery recover_asked }
+fn recover(
+    vol: &mut [u32],
+    pers: &mut [u32],
+    old: &[u32],
+    marks: &mut Marks,
+    glb: &mut u32,
+    recovery: Recovery,
+) -> Result<Event, Refusal>
+    ensures { happened_of result (memory vol.new pers.new old.now marks.new glb.new)
+        ≡ call_system (memory vol.old pers.old old.now marks.old glb.old) recovery recover_asked }
 {
-    recovers(&*memory, recovery)?;
-    Ok(lines_done(recovery_line(memory, recovery), 1))
+    recovers(vol.len(), pers.len(), old.len(), &*marks, *glb, recovery)?;
+    Ok(lines_done(recovery_line(vol, pers, old, marks, glb, recovery), 1))
 }
 
 // As many recovery lines as the allowance, or all that are left up to and with C6 if those are fewer. In both answers that
 // the lines can have, the value is how many they are.
-fn recover_up_to(memory: &mut Memory, recovery: Recovery, allowance: u64) -> Result<Event, Refusal>
-    ensures same { SameRows memory.old memory.new }
-    ensures left { happened_of result (memory_of memory.new) ≡ call_system (memory_of memory.old) recovery (recover_up_to allowance) }
+fn recover_up_to(
+    vol: &mut [u32],
+    pers: &mut [u32],
+    old: &[u32],
+    marks: &mut Marks,
+    glb: &mut u32,
+    recovery: Recovery,
+    allowance: u64,
+) -> Result<Event, Refusal>
+    ensures { happened_of result (memory vol.new pers.new old.now marks.new glb.new)
+        ≡ call_system (memory vol.old pers.old old.now marks.old glb.old) recovery (recover_up_to allowance) }
 {
-    recovers(&*memory, recovery)?;
-    let turn = recovery_lines(memory, recovery, allowance);
+    recovers(vol.len(), pers.len(), old.len(), &*marks, *glb, recovery)?;
+    let turn = recovery_lines(vol, pers, old, marks, glb, recovery, allowance);
     Ok(lines_done(turn, value(Ok(turn.answer))))
 }
 
-pub fn call_system(memory: &mut Memory, recovery: Recovery, sys: Sys) -> Result<Event, Refusal>
+// The rows and what stands beside them go apart, since the old words are only read here: who calls need not have them to write.
+pub fn call_system(
+    vol: &mut [u32],
+    pers: &mut [u32],
+    old: &[u32],
+    marks: &mut Marks,
+    glb: &mut u32,
+    recovery: Recovery,
+    sys: Sys,
+) -> Result<Event, Refusal>
+    ensures { happened_of result (memory vol.new pers.new old.now marks.new glb.new)
+        ≡ call_system (memory vol.old pers.old old.now marks.old glb.old) recovery sys }
+{
+    match sys {
+        Sys::Flush { word } => flush(&*vol, pers, old, &*marks, *glb, recovery, word),
+        Sys::Crash => crash(vol, &*pers, old, &*marks, glb, recovery),
+        Sys::Recover => recover(vol, pers, old, marks, glb, recovery),
+        Sys::RecoverUpTo { allowance } => recover_up_to(
+            vol, pers, old, marks, glb, recovery, allowance,
+        ),
+    }
+}
+
+// The same for a caller that has all of it as one.
+pub fn call_on_memory(memory: &mut Memory, recovery: Recovery, sys: Sys) -> Result<Event, Refusal>
     ensures same { SameRows memory.old memory.new }
     ensures left { happened_of result (memory_of memory.new) ≡ call_system (memory_of memory.old) recovery sys }
 {
-    match sys {
-        Sys::Flush { word } => flush(memory, recovery, word),
-        Sys::Crash => crash(memory, recovery),
-        Sys::Recover => recover(memory, recovery),
-        Sys::RecoverUpTo { allowance } => recover_up_to(memory, recovery, allowance),
-    }
+    let vol = &mut *memory.vol;
+    let pers = &mut *memory.pers;
+    let old = &mut *memory.old_words;
+    let marks = &mut memory.marks;
+    let glb = &mut memory.glb;
+    call_system(vol, pers, &*old, marks, glb, recovery, sys)
 }
 
 // What a crash does to each record.

@@ -1,17 +1,17 @@
 // The lines of recovery, C1 to C6.
 ghost use Rattle.std.specs.Prelude.{◌≡◌, true, false, ◌<◌, length, get_or};
 ghost use Rattle.bits.specs.Marks.{pick, lowest_of};
+ghost use Rattle.dtml.specs.Store.{memory};
 ghost use Rattle.dtml.specs.Lines.{any_mark, recovery_line};
 ghost use Rattle.dtml.specs.Table.{says};
-ghost use Rattle.dtml.specs.Checks.{unfit_memory, not_idle};
+ghost use Rattle.dtml.specs.Checks.{unfit_beside, not_idle};
 ghost use Rattle.dtml.specs.Calls.{up_to};
-ghost use Rattle.parts.specs.Lent.{memory_of, SameRows};
 ghost use Rattle.system.specs.Recovering.{recovery_turn_of, recovery_did_of};
 
 use dtml::{Answer, Recovery};
 use marks::Marks;
-use parts::memory::Memory;
 use parts::stages::not_idle;
+use parts::words::flush_word;
 
 // What a line of recovery, or some, leave beside the memory.
 #[derive(Clone, Copy)]
@@ -40,40 +40,47 @@ fn c1(marks: &Marks) -> Recovery
     }
 }
 
-fn c2(memory: &Memory) -> Recovery
-    requires { (lowest_of memory.now.marks < length memory.now.old_words.now) × (lowest_of memory.now.marks < 256) }
-    ensures { result ≡ Recovery.C3 (lowest_of memory.now.marks) (get_or memory.now.old_words.now (lowest_of memory.now.marks) 0) }
+fn c2(old: &[u32], marks: &Marks) -> Recovery
+    requires { (lowest_of marks.now < length old.now) × (lowest_of marks.now < 256) }
+    ensures { result ≡ Recovery.C3 (lowest_of marks.now) (get_or old.now (lowest_of marks.now) 0) }
 {
-    let w = marks::lowest(&memory.marks);
-    let value = memory.old_words[w as usize];
+    let w = marks::lowest(marks);
+    let value = old[w as usize];
     let word = w as u32;
     Recovery::C3 { word, value }
 }
 
 // One line, the one at which recovery stands.
-pub(crate) fn recovery_line(memory: &mut Memory, recovery: Recovery) -> RecoveryTurn
-    requires { unfit_memory (memory_of memory.old) recovery ≡ false }
-    ensures same { SameRows memory.old memory.new }
-    ensures left { recovery_did_of result (memory_of memory.new) ≡ recovery_line (memory_of memory.old) recovery }
+pub(crate) fn recovery_line(
+    vol: &mut [u32],
+    pers: &mut [u32],
+    old: &[u32],
+    marks: &mut Marks,
+    glb: &mut u32,
+    recovery: Recovery,
+) -> RecoveryTurn
+    requires { unfit_beside (length vol.old) (length pers.old) (length old.now) marks.old glb.old recovery ≡ false }
+    ensures { recovery_did_of result (memory vol.new pers.new old.now marks.new glb.new)
+        ≡ recovery_line (memory vol.old pers.old old.now marks.old glb.old) recovery }
 {
     match recovery {
         Recovery::Idle => taken(Recovery::Idle),
-        Recovery::C1 => taken(c1(&memory.marks)),
-        Recovery::C2 => taken(c2(&*memory)),
+        Recovery::C1 => taken(c1(&*marks)),
+        Recovery::C2 => taken(c2(old, &*marks)),
         Recovery::C3 { word, value } => {
-            memory.vol[word as usize] = value;
+            vol[word as usize] = value;
             taken(Recovery::C4 { word, value })
         }
         Recovery::C4 { word, value } => {
-            memory.flush_word(word as usize);
+            flush_word(&*vol, pers, word as usize);
             taken(Recovery::C5 { word, value })
         }
         Recovery::C5 { word, .. } => {
-            marks::unmark(&mut memory.marks, word as u64);
+            marks::unmark(marks, word as u64);
             taken(Recovery::C1)
         }
         Recovery::C6 => {
-            memory.glb = 0;
+            *glb = 0;
             RecoveryTurn {
                 answer: Answer::Recovered { lines: 0 },
                 recovery: Recovery::Idle,
@@ -95,20 +102,24 @@ fn answered(recovery: Recovery, lines: u64) -> RecoveryTurn
 }
 
 pub(crate) fn recovery_lines(
-    memory: &mut Memory,
+    vol: &mut [u32],
+    pers: &mut [u32],
+    old: &[u32],
+    marks: &mut Marks,
+    glb: &mut u32,
     recovery: Recovery,
     allowance: u64,
 ) -> RecoveryTurn
-    requires { (unfit_memory (memory_of memory.old) recovery ≡ false) × (not_idle recovery ≡ true) }
-    ensures same { SameRows memory.old memory.new }
-    ensures left { recovery_did_of result (memory_of memory.new) ≡ up_to allowance (says 0 0) (memory_of memory.old) recovery }
+    requires { (unfit_beside (length vol.old) (length pers.old) (length old.now) marks.old glb.old recovery ≡ false) × (not_idle recovery ≡ true) }
+    ensures { recovery_did_of result (memory vol.new pers.new old.now marks.new glb.new)
+        ≡ up_to allowance (says 0 0) (memory vol.old pers.old old.now marks.old glb.old) recovery }
 {
     let mut at = recovery;
     for lines in 0..allowance {
         if !not_idle(at) {
             return answered(at, lines);
         }
-        at = recovery_line(memory, at).recovery;
+        at = recovery_line(vol, pers, old, marks, glb, at).recovery;
     }
     answered(at, allowance)
 }

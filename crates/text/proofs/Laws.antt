@@ -23,6 +23,10 @@ pub put-fits : (bytes : List ℕ) (at b : ℕ) → at < length bytes → put (bu
 unfolding put
 put-fits bytes at b h = rw (lt-ltb at (length bytes) h)
 
+pub put_full : (bytes : List ℕ) (at b : ℕ) → length bytes ≤ at → put (buffer bytes at) b ≡ buffer bytes at
+unfolding put
+put_full bytes at b h = rw (le-ltb at (length bytes) h)
+
 put-length : (o : Buffer) (b : ℕ) → length (put o b).bytes ≡ length o.bytes
 unfolding put
 put-length o b = go (ltb o.at (length o.bytes))

@@ -26,7 +26,7 @@ use parts::stages::not_idle;
 use reader::TraceRefusal;
 use reader::place::{Reader, next};
 use records::crash_if;
-use system::{Event, call_system};
+use system::{Event, call_on_memory};
 use text::Page;
 
 // A commit, 1, or none.
@@ -171,7 +171,7 @@ fn on_none(
         ≡ call_moment (memory_of memory.old) recovery tx totals (on_page page.old) (sys_asked sys) }
     ensures brief { Brief (memory_of memory.old) recovery tx totals (sys_asked sys) }
 {
-    match call_system(memory, recovery, sys) {
+    match call_on_memory(memory, recovery, sys) {
         Ok(Event::Flushed) => Moved {
             totals: added(totals, 0, 0, 0),
             change: Change::Nothing,

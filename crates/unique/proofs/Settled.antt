@@ -7,10 +7,13 @@ use seplogic.Ra.Ura.{Ura}
 use base.Logic.{ent, via, emp, sep}
 use contract.Conj.{conj_r, conj_mono, sep→conj}
 use contract.Monad.{conj, fact, guard-conj, fact_mono}
+use Rattle.std.specs.Prelude.{Result}
+use Rattle.dtml.specs.declared.Refusal.{Refusal}
 use Rattle.dtml.specs.declared.Tx.{Tx}
 use Rattle.dtml.specs.Store.{Memory, Store}
 use Rattle.parts.specs.declared.memory.Memory.{Memory as Lent}
 use Rattle.parts.specs.Lent.{memory_of, SameRows}
+use Rattle.system.specs.declared.Event.{Event}
 use Rattle.machine.specs.declared.After.{After}
 use Rattle.machine.specs.Working.{Renewed}
 use Rattle.numbers.specs.Numbers.{Rows, rows, Given, given}
@@ -151,9 +154,14 @@ unique-outcomes 𝓤 =
       parts-unfit-idle = (λ κs a. refl, λ 𝓛 mem run κs a g x y. both 𝓤 (result x y));
       parts-unfit-beside = (λ κs a. refl, λ 𝓛 mem run κs a g x y. both 𝓤 (result x y));
       parts-unfit-one = (λ κs a. refl, λ 𝓛 mem run κs a g x y. both 𝓤 (result x y));
-      parts-flush-word = (λ κs a. refl, λ 𝓛 mem run κs a g x y. said 𝓤 (λ s t p q. on-memory x y s t (ap (λ m. (tt, m)) (p ∙ sym q))));
+      parts-flush-word = (λ κs a. refl, λ 𝓛 mem run κs a g x y. both 𝓤 (λ p q. ap (λ z. (tt, (tt, (z, (tt, tt))))) (p ∙ sym q)));
+      memory-unfit-idle = (λ κs a. refl, λ 𝓛 mem run κs a g x y. both 𝓤 (result x y));
+      memory-unfit-beside = (λ κs a. refl, λ 𝓛 mem run κs a g x y. both 𝓤 (result x y));
+      memory-unfit-one = (λ κs a. refl, λ 𝓛 mem run κs a g x y. both 𝓤 (result x y));
+      memory-flush-word = (λ κs a. refl, λ 𝓛 mem run κs a g x y. said 𝓤 (λ s t p q. on-memory x y s t (ap (λ m. (tt, m)) (p ∙ sym q))));
       lines-call-one = (λ κs a. refl, λ 𝓛 mem run κs a g x y. said 𝓤 (λ s t p q. on-memory x y s t (turn-same x.0 y.0 p q)));
-      system-call-system = (λ κs a. refl, λ 𝓛 mem run κs a g x y. said 𝓤 (λ s t p q. on-memory x y s t (event-same x.0 y.0 p q)));
+      system-call-system = (λ κs a. refl, λ 𝓛 mem run κs a g x y. both 𝓤 (λ p q. ap (λ (z : Result Event Refusal × Memory). (z.0, (z.1.vol, (z.1.pers, (tt, (z.1.marks, (z.1.glb, x.1.1.1.1.1.1))))))) (event-same x.0 y.0 p q)));
+      system-call-on-memory = (λ κs a. refl, λ 𝓛 mem run κs a g x y. said 𝓤 (λ s t p q. on-memory x y s t (event-same x.0 y.0 p q)));
       system-crash-tx = (λ κs a. refl, λ 𝓛 mem run κs a g x y. both 𝓤 (result x y));
       records-get = (λ κs a. refl, λ 𝓛 mem run κs a g x y. both 𝓤 (result x y));
       records-put = (λ κs a. refl, λ 𝓛 mem run κs a g x y. both 𝓤 (row x y));
@@ -164,7 +172,7 @@ unique-outcomes 𝓤 =
       machine-slot = (λ κs a. refl, λ 𝓛 mem run κs a g x y. both 𝓤 (bounded x y));
       machine-work = (λ κs a. refl, λ 𝓛 mem run κs a g x y. said 𝓤 (λ s t p q. on-memory x y s t (worked_same x.0 y.0 p q)));
       machine-zero = (λ κs a. refl, λ 𝓛 mem run κs a g x y. both 𝓤 (row x y));
-      machine-renew = (λ κs a. refl, λ 𝓛 mem run κs a g x y. both 𝓤 (λ p q. ap (λ (z : Renewed). (z.made, (z.vol, (z.pers, (z.old, x.1.1.1.1))))) (p ∙ sym q)));
+      machine-renew = (λ κs a. refl, λ 𝓛 mem run κs a g x y. both 𝓤 (λ p q. ap (λ (z : Renewed). (z.after, (z.vol, (z.pers, (z.old, x.1.1.1.1))))) (p ∙ sym q)));
       machine-blank = (λ κs a. refl, λ 𝓛 mem run κs a g x y. both 𝓤 (result x y));
       machine-make-fresh = (λ κs a. refl, λ 𝓛 mem run κs a g x y. both 𝓤 (λ p q. ap (λ (z : After × Store). (z.0, (z.1.mem.vol, (z.1.mem.pers, (z.1.mem.old, (z.1.txs, x.1.1.1.1.1)))))) (after_same x.0 y.0 p q)));
       machine-call = (λ κs a. refl, λ 𝓛 mem run κs a g x y. both 𝓤 (λ p q. ap (λ (z : After × Store). (z.0, (z.1.mem.vol, (z.1.mem.pers, (z.1.mem.old, (z.1.txs, x.1.1.1.1.1)))))) (after_same x.0 y.0 p q)));

@@ -1,7 +1,7 @@
 -- Document 01: "For all inputs a public function's promise settles the answer and every lent row afterwards, after a refusal too." A promise is a function's clauses
 -- as the toolchain makes them from its source, so none can be weakened unseen. A method stands below its type, as `text.Page.put_byte`, and a trait's method below the
 -- type's name and the trait's. The exceptions are `input::read_full` and `input::report_input`, whose outcomes are the reader's to say, and, of
--- `report_input`, the writer's and the closure's.
+-- `report_input`, the writer's and the report's.
 use Rattle.std.specs.Prelude.{◌≡◌}
 use seplogic.Ra.Ura.{Ura}
 use base.Logic.{SProp, ent}
@@ -72,13 +72,18 @@ pub record UniqueOutcomes {M : Type 1} (𝓤 : Ura M) : Type 2 where
   pub parts-phase-past : Settled parts.fit.phase_past.ended (parts.fit.phase_past.clauses {𝓤 = 𝓤})
   pub parts-unfit-recovery : Settled parts.fit.unfit_recovery.ended (parts.fit.unfit_recovery.clauses {𝓤 = 𝓤})
   pub parts-unfit-tx : Settled parts.fit.unfit_tx.ended (parts.fit.unfit_tx.clauses {𝓤 = 𝓤})
-  pub parts-unfit-idle : Settled parts.memory.Memory.unfit_idle.ended (parts.memory.Memory.unfit_idle.clauses {𝓤 = 𝓤})
-  pub parts-unfit-beside : Settled parts.memory.Memory.unfit_beside.ended (parts.memory.Memory.unfit_beside.clauses {𝓤 = 𝓤})
-  pub parts-unfit-one : Settled parts.memory.Memory.unfit_one.ended (parts.memory.Memory.unfit_one.clauses {𝓤 = 𝓤})
-  pub parts-flush-word : Settled parts.memory.Memory.flush_word.ended (parts.memory.Memory.flush_word.clauses {𝓤 = 𝓤})
+  pub parts-unfit-idle : Settled parts.fit.unfit_idle.ended (parts.fit.unfit_idle.clauses {𝓤 = 𝓤})
+  pub parts-unfit-beside : Settled parts.fit.unfit_beside.ended (parts.fit.unfit_beside.clauses {𝓤 = 𝓤})
+  pub parts-unfit-one : Settled parts.fit.unfit_one.ended (parts.fit.unfit_one.clauses {𝓤 = 𝓤})
+  pub parts-flush-word : Settled parts.words.flush_word.ended (parts.words.flush_word.clauses {𝓤 = 𝓤})
+  pub memory-unfit-idle : Settled parts.memory.Memory.unfit_idle.ended (parts.memory.Memory.unfit_idle.clauses {𝓤 = 𝓤})
+  pub memory-unfit-beside : Settled parts.memory.Memory.unfit_beside.ended (parts.memory.Memory.unfit_beside.clauses {𝓤 = 𝓤})
+  pub memory-unfit-one : Settled parts.memory.Memory.unfit_one.ended (parts.memory.Memory.unfit_one.clauses {𝓤 = 𝓤})
+  pub memory-flush-word : Settled parts.memory.Memory.flush_word.ended (parts.memory.Memory.flush_word.clauses {𝓤 = 𝓤})
   -- the calls, on what they are handed
   pub lines-call-one : Settled lines.call_one.ended (lines.call_one.clauses {𝓤 = 𝓤})
   pub system-call-system : Settled system.call_system.ended (system.call_system.clauses {𝓤 = 𝓤})
+  pub system-call-on-memory : Settled system.call_on_memory.ended (system.call_on_memory.clauses {𝓤 = 𝓤})
   pub system-crash-tx : Settled system.crash_tx.ended (system.crash_tx.clauses {𝓤 = 𝓤})
   -- the calls, on a whole store
   pub records-get : Settled records.get.ended (records.get.clauses {𝓤 = 𝓤})

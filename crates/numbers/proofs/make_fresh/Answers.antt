@@ -11,7 +11,7 @@ returns-then-records-ne256 c = answers c.number-then-records-ne256.ensures (reco
 pub returns-in-Ok : goal.returns-in-Ok
 returns-in-Ok c =
     answers c.number-in-Ok.ensures
-    (made-fresh _ _ _ _ _ c.renew.ensures c.if-held-ne8.false c.if-records-ne256.false c.in-Ok.is (c.fill.ensures.after (λ y e. e)) (c.fill-in-Ok.ensures.after (λ y e. e)))
+    (made-fresh _ _ _ _ _ _ c.renew.ensures c.if-held-ne8.false c.if-records-ne256.false c.in-Ok.is (c.fill.ensures.after (λ y e. e)) (c.fill-in-Ok.ensures.after (λ y e. e)))
 
 pub returns-in-Err : goal.returns-in-Err
-returns-in-Err c = answers c.number-in-Err.ensures (rows-refused _ _ _ _ _ c.renew.ensures c.in-Err.is)
+returns-in-Err c = answers c.number-in-Err.ensures (rows-refused _ _ _ _ _ _ c.renew.ensures c.in-Err.is)

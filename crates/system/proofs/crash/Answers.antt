@@ -4,13 +4,13 @@ use Rattle.dtml.specs.Handed.{call_system}
 use Rattle.dtml.proofs.Fit.{fits}
 use Rattle.system.proofs.crash.Goals as goal
 
-pub restart-requires : goal.restart-requires
-restart-requires c = sym (fits _ _ _ _ _ _ (sym c.unfit_beside.ensures ∙ c.if-unfit_beside.false)).pers-long
-
-pub returns-then-unfit_beside-clause-left : goal.returns-then-unfit_beside-clause-left
+pub returns-then-unfit_beside : goal.returns-then-unfit_beside
 unfolding call_system
-returns-then-unfit_beside-clause-left c = rw (← c.unfit_beside.ensures, c.if-unfit_beside.true)
+returns-then-unfit_beside c = rw (← c.unfit_beside.ensures, c.if-unfit_beside.true)
 
-pub returns-clause-left : goal.returns-clause-left
+pub copy-requires : goal.copy-requires
+copy-requires c = sym (fits _ _ _ _ _ _ (sym c.unfit_beside.ensures ∙ c.if-unfit_beside.false)).pers-long
+
+pub returns : goal.returns
 unfolding call_system
-returns-clause-left c = rw (c.restart.ensures.restarted, ← c.unfit_beside.ensures, c.if-unfit_beside.false)
+returns c = rw (c.copy.ensures, ← c.unfit_beside.ensures, c.if-unfit_beside.false)

@@ -1,9 +1,9 @@
--- `replay::report` meets its contract: the rows lent are as long as the header says, and the buffer has room for the text. As in the other programs that replay, the goals are answered by one law each.
+-- `replay::Replay::report` meets its contract: the rows lent are as long as the header says, and the buffer has room for the text. As in the other programs that replay, the goals are answered by one law each.
 use mathlib.Core.Path.{sym}
 use lib.Seq.{length-take-le}
 use Rattle.day.proofs.Shown.{few_words, shown}
 use Rattle.replay.proofs.Reports.{reports}
-use Rattle.replay.proofs.report.Goals as goal
+use Rattle.replay.proofs.ReplayReport655438.report.Goals as goal
 
 pub slice_bounds-vol-end : goal.slice_bounds-vol-end
 slice_bounds-vol-end c = few_words _ c.header.result c.header.ensures _ c.unwrap_or-n.ensures
@@ -26,5 +26,5 @@ slice_bounds-replay_beside-end-3 c = sym (length-take-le _ _ (few_words _ c.head
 pub returns : goal.returns
 returns c =
     let long = sym (length-take-le _ _ (few_words _ c.header.result c.header.ensures _ c.unwrap_or-n.ensures)) in
-    reports _ _ _ c.replay_beside-done.result.ended.length c.requires
+    reports _ _ _ c.replay_beside-done.result.ended.length c.told-out
     (shown _ c.header.result c.header.ensures _ c.unwrap_or-n.ensures _ _ _ _ long long long _ _ _ _ _ c.replay_beside-done.result c.replay_beside-done.ensures)

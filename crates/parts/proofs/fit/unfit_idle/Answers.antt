@@ -1,8 +1,8 @@
--- `parts::memory::Memory::unfit_idle` meets its contract: each return is the clause that applies, after those before it did not; an idle recovery adds nothing.
+-- `parts::fit::unfit_idle` meets its contract: each return is the clause that applies, after those before it did not; an idle recovery adds nothing.
 use lib.Dec.{ltb}
 use Rattle.dtml.specs.Checks.{unfit_beside}
 use Rattle.parts.proofs.Beside.{last-but-false}
-use Rattle.parts.proofs.memory.Memory.unfit_idle.Goals as goal
+use Rattle.parts.proofs.fit.unfit_idle.Goals as goal
 
 pub returns-then-unfit_rows : goal.returns-then-unfit_rows
 unfolding unfit_beside
@@ -21,4 +21,4 @@ returns c =
       c.if-unfit_rows.false,
       ← c.stands_from.ensures,
       c.if-stands_from.false,
-    ) (last-but-false (ltb 65535 c.args.self.now.glb))
+    ) (last-but-false (ltb 65535 c.args.glb))

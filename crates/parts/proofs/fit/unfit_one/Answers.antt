@@ -1,7 +1,7 @@
--- `parts::memory::Memory::unfit_one` meets its contract: each return is the clause that applies, after the one before it did not.
+-- `parts::fit::unfit_one` meets its contract: each return is the clause that applies, after the one before it did not.
 use Rattle.dtml.proofs.Fit.{last}
 use Rattle.dtml.specs.Checks.{unfit_one}
-use Rattle.parts.proofs.memory.Memory.unfit_one.Goals as goal
+use Rattle.parts.proofs.fit.unfit_one.Goals as goal
 
 pub returns-then-unfit_beside : goal.returns-then-unfit_beside
 unfolding unfit_one

@@ -1,9 +1,9 @@
--- `replay_lent::report` meets its contract: the rows lent are as long as the header says, and the buffer has room for the text. As in the other programs that replay, the goals are answered by one law each.
+-- `replay_lent::Replay::report` meets its contract: the rows lent are as long as the header says, and the buffer has room for the text. As in the other programs that replay, the goals are answered by one law each.
 use mathlib.Core.Path.{sym}
 use lib.Seq.{length-take-le}
 use Rattle.day.proofs.Shown.{few_words}
 use Rattle.replay_lent.proofs.Reports.{reports}
-use Rattle.replay_lent.proofs.report.Goals as goal
+use Rattle.replay_lent.proofs.ReplayReport655438.report.Goals as goal
 
 pub slice_bounds-vol-end : goal.slice_bounds-vol-end
 slice_bounds-vol-end c = few_words _ c.header.result c.header.ensures _ c.unwrap_or-n.ensures
@@ -26,4 +26,4 @@ slice_bounds-on_records-end-3 c = sym (length-take-le _ _ (few_words _ c.header.
 pub returns : goal.returns
 returns c =
     let long = sym (length-take-le _ _ (few_words _ c.header.result c.header.ensures _ c.unwrap_or-n.ensures)) in
-    reports _ c.header.result c.header.ensures _ c.unwrap_or-n.ensures _ _ _ _ long long long _ _ c.on_records.result c.requires c.on_records.ensures
+    reports _ c.header.result c.header.ensures _ c.unwrap_or-n.ensures _ _ _ _ long long long _ _ c.on_records.result c.told-out c.on_records.ensures
