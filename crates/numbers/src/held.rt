@@ -44,14 +44,21 @@ pub(crate) fn held_numbers(held: Held) -> [u64; 8]
 }
 
 // What the numbers spell, if they are those that it is spelled by: a number that is too large, a line that there is none of, or a word where
-// there is none, is told by one comparison.
-#[tactic(auto, using(crate::proofs::Beside::spelling), unfolding(crate::specs::Ways::spells_held))]
+// there is none, is told by one comparison. The four marks spell themselves.
+#[tactic(auto, using(crate::proofs::Beside::not_eight))]
 pub(crate) fn read_held(held: &[u64]) -> Option<Held>
     ensures { result ≡ pick (spells_held held.now) (Some (held_spelt held.now)) None }
 {
     let numbers = *held.as_array::<8>()?;
     let read = held_of(numbers);
-    if held_numbers(read) != numbers {
+    let s = spell_recovery(read.recovery);
+    let told = [
+        read.glb as u64,
+        s.number as u64,
+        s.word as u64,
+        s.value as u64,
+    ];
+    if told != [numbers[4], numbers[5], numbers[6], numbers[7]] {
         return None;
     }
     Some(read)
